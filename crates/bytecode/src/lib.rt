@@ -1,0 +1,10 @@
+//! The machine's instructions, and the three-byte words that write them.
+
+mod argument;
+mod coding;
+mod instruction;
+
+pub use argument::Argument;
+pub use coding::decode;
+pub use instruction::Instruction;
+pub use instruction::Word;
