@@ -1,4 +1,5 @@
 pub mod Operators
+pub mod Tokens
 pub mod Tree
 pub mod Typing
 pub mod Code
