@@ -1,5 +1,9 @@
 pub mod Operators
 pub mod Tokens
+pub mod Names
 pub mod Tree
 pub mod Typing
+pub mod Frames
+pub mod Fold
+pub mod Reading
 pub mod Code

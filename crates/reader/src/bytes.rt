@@ -9,7 +9,7 @@ ghost use Rattle.reader.specs.Classes.{belongs};
 
 /// A class of bytes of which runs are taken whole.
 #[derive(Clone, Copy)]
-pub enum Class {
+pub(crate) enum Class {
     Blank,
     Digit,
     /// A letter or a digit.
@@ -23,13 +23,13 @@ fn is_blank(byte: u8) -> bool
     byte == 32 || byte == 9 || byte == 10 || byte == 13
 }
 
-pub fn is_digit(byte: u8) -> bool
+pub(crate) fn is_digit(byte: u8) -> bool
     ensures { λ r. ⌜ r ≡ isDigit byte ⌝ }
 {
     b'0' <= byte && byte <= b'9'
 }
 
-pub fn is_small(byte: u8) -> bool
+pub(crate) fn is_small(byte: u8) -> bool
     ensures { λ r. ⌜ r ≡ isSmall byte ⌝ }
 {
     b'a' <= byte && byte <= b'z'
@@ -53,7 +53,7 @@ fn is_in(class: Class, byte: u8) -> bool
 }
 
 /// The byte at a place, or 0 past the end.
-pub fn byte(bytes: &[u8], place: usize) -> u8
+pub(crate) fn byte(bytes: &[u8], place: usize) -> u8
     ensures value { λ r. ⌜ r ≡ getD (now (bytes .entry)) place 0 ⌝ }
     ensures found { λ r. ⌜ (0 < r → place < length (now (bytes .entry))) ⌝ }
 {
@@ -61,7 +61,7 @@ pub fn byte(bytes: &[u8], place: usize) -> u8
 }
 
 /// How many bytes at the start are of the class.
-pub fn run(class: Class, bytes: &[u8]) -> usize
+pub(crate) fn run(class: Class, bytes: &[u8]) -> usize
     ensures value { λ r. ⌜ r ≡ runOf (belongs class) (now (bytes .entry)) ⌝ }
     ensures within { λ r. ⌜ r ≤ length (now (bytes .entry)) ⌝ }
 {
@@ -74,7 +74,7 @@ pub fn run(class: Class, bytes: &[u8]) -> usize
 }
 
 /// Whether two texts are the same.
-pub fn same(one: &[u8], other: &[u8]) -> bool
+pub(crate) fn same(one: &[u8], other: &[u8]) -> bool
     ensures { λ r. ⌜ r ≡ sameBytes (now (one .entry)) (now (other .entry)) ⌝ }
 {
     one == other

@@ -2,7 +2,9 @@
 
 mod bytes;
 mod lexer;
+mod names;
 mod next;
 mod scan;
+mod scope;
 
 pub use lexer::Lexer;

@@ -130,7 +130,7 @@ fn minus_at(text: &[u8]) -> (TokenKind, usize)
 }
 
 /// The token that the text begins with, behind no blank, and how many bytes it has.
-pub fn scan(text: &[u8]) -> (TokenKind, usize)
+pub(crate) fn scan(text: &[u8]) -> (TokenKind, usize)
     ensures value { λ r. ⌜ r ≡ scanned (now (text .entry)) ⌝ }
     ensures within { λ r. ⌜ r .1 ≤ length (now (text .entry)) ⌝ }
 {
