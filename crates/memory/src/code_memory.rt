@@ -19,12 +19,13 @@ pub trait CodeMemory {
     /// How many words it holds.
     fn count(&self) -> usize
         ensures value { λ r. ⌜ r ≡ length (listed (now (self .entry))) ⌝ }
-        ensures within { λ r. ⌜ r ≤ room (now (self .entry)) ⌝ };
+        ensures within { λ r. ⌜ r ≤ room (now (self .entry)) ⌝ }
+        ensures bounded { λ _. ⌜ room (now (self .entry)) ≤ 65535 ⌝ };
 
     /// How many words it has room for.
     fn capacity(&self) -> usize
         ensures value { λ r. ⌜ r ≡ room (now (self .entry)) ⌝ }
-        ensures bounded { λ r. ⌜ r ≤ 65535 ⌝ };
+        ensures bounded { λ _. ⌜ room (now (self .entry)) ≤ 65535 ⌝ };
 
     /// The word at a place, or none past the end.
     fn at(&self, place: usize) -> Option<Word>
