@@ -8,3 +8,5 @@ pub use argument::Argument;
 pub use coding::decode;
 pub use instruction::Instruction;
 pub use instruction::Word;
+pub use instruction::WordDebug;
+pub use instruction::WordPartialEq;
