@@ -27,6 +27,12 @@ use Rattle.language.specs.declared.frame.Mark.{Mark}
 use Rattle.language.specs.declared.frame.Mark.the-variants.{Paren, Condition, Then as ThenMark, Else as ElseMark, Binder, Value, Body, Binary as BinaryMark, Prefix as PrefixMark}
 use Rattle.language.specs.declared.operator.Operator.{Operator}
 use Rattle.language.specs.declared.operator.Operator.the-variants.{Or, And, Equal, AtMost, Plus, Times}
+use Rattle.language.specs.declared.step.Opening.{Opening}
+use Rattle.language.specs.declared.step.Opening.the-variants.{Leaf, Name as NameOpening, Nested, Whole, Nothing as NoOpening}
+use Rattle.language.specs.declared.step.Sequel.{Sequel}
+use Rattle.language.specs.declared.step.Sequel.the-variants.{Join, Turn as TurnTo, Bring, Shut, Finish, Nothing as NoSequel}
+use Rattle.language.specs.declared.step.Turn.{Turn}
+use Rattle.language.specs.declared.step.Turn.the-variants.{Then as ThenTurn, Else as ElseTurn}
 use Rattle.language.specs.declared.token.TokenKind.{TokenKind}
 use Rattle.language.specs.declared.token.TokenKind.the-variants.{Number, Truth, Name, Binary, Prefix, If, Then, Else, Let, In, Open, Close, End, TooLarge, Bad}
 
@@ -86,23 +92,30 @@ misplaced End p = Unexpected p
 misplaced TooLarge p = NumberTooLarge p
 misplaced Bad p = NoToken p
 
--- where an operand is due
-abbrev pub begun : State → TokenKind → ℕ → List ℕ → Step
-begun s (Number k) p x = leaf NumberKind k p s
-begun s (Truth b) p x = leaf TruthKind (plus (cond b 1 0)) p s
-begun s Name p x = named (position x (s .scope)) p s
-begun s (Prefix o) p x = enter (PrefixMark o) p Operand s
-begun s Open p x = enter Paren p Operand s
-begun s If p x = enterWhole Condition p Operand s
-begun s Let p x = enterWhole Binder p BinderDue s
-begun s (Binary o) p x = Err (misplaced (Binary o) p)
-begun s Then p x = Err (misplaced Then p)
-begun s Else p x = Err (misplaced Else p)
-begun s In p x = Err (misplaced In p)
-begun s Close p x = Err (misplaced Close p)
-begun s End p x = Err (misplaced End p)
-begun s TooLarge p x = Err (misplaced TooLarge p)
-begun s Bad p x = Err (misplaced Bad p)
+-- what a token begins where an operand is due
+abbrev pub openingOf : TokenKind → Opening
+openingOf (Number k) = Leaf NumberKind k
+openingOf (Truth b) = Leaf TruthKind (plus (cond b 1 0))
+openingOf Name = NameOpening
+openingOf (Prefix o) = Nested (PrefixMark o)
+openingOf Open = Nested Paren
+openingOf If = Whole Condition Operand
+openingOf Let = Whole Binder BinderDue
+openingOf (Binary o) = NoOpening
+openingOf Then = NoOpening
+openingOf Else = NoOpening
+openingOf In = NoOpening
+openingOf Close = NoOpening
+openingOf End = NoOpening
+openingOf TooLarge = NoOpening
+openingOf Bad = NoOpening
+
+abbrev pub begun : Opening → State → TokenKind → ℕ → List ℕ → Step
+begun (Leaf e n) s k p x = leaf e n p s
+begun NameOpening s k p x = named (position x (s .scope)) p s
+begun (Nested m) s k p x = enter m p Operand s
+begun (Whole m d) s k p x = enterWhole m p d s
+begun NoOpening s k p x = Err (misplaced k p)
 
 -- the frame on top with another mark, before entries that come after n
 abbrev pub remarked : Mark → ℕ → List Frame → List Frame
@@ -200,6 +213,10 @@ elseOf Body = None
 elseOf (BinaryMark o) = None
 elseOf (PrefixMark o) = None
 
+abbrev pub turnOf : Turn → Mark → Option Mark
+turnOf ThenTurn m = thenOf m
+turnOf ElseTurn m = elseOf m
+
 abbrev pub inOf : Mark → Option Mark
 inOf Paren = None
 inOf Condition = None
@@ -256,29 +273,37 @@ finishTop p (f ∷ fs) u es = Err (Unexpected p)
 abbrev pub finished : ℕ → State → List Entry → Step
 finished p u es = finishTop p (u .frames) u es
 
--- where an operand has ended
-abbrev pub goneOn : State → TokenKind → ℕ → Step
-goneOn s (Binary o) p = joined o p (ended (ends o) s) (endings (ends o) s)
-goneOn s Then p = turned thenOf p (ended 0 s) (endings 0 s)
-goneOn s Else p = turned elseOf p (ended 0 s) (endings 0 s)
-goneOn s In p = brought (turned inOf p (ended 0 s) (endings 0 s))
-goneOn s Close p = shut p (ended 0 s) (endings 0 s)
-goneOn s End p = finished p (ended 0 s) (endings 0 s)
-goneOn s (Number k) p = Err (misplaced (Number k) p)
-goneOn s (Truth b) p = Err (misplaced (Truth b) p)
-goneOn s Name p = Err (misplaced Name p)
-goneOn s (Prefix o) p = Err (misplaced (Prefix o) p)
-goneOn s Open p = Err (misplaced Open p)
-goneOn s If p = Err (misplaced If p)
-goneOn s Let p = Err (misplaced Let p)
-goneOn s TooLarge p = Err (misplaced TooLarge p)
-goneOn s Bad p = Err (misplaced Bad p)
+-- what a token does where an operand has ended
+abbrev pub sequelOf : TokenKind → Sequel
+sequelOf (Binary o) = Join o
+sequelOf Then = TurnTo ThenTurn
+sequelOf Else = TurnTo ElseTurn
+sequelOf In = Bring
+sequelOf Close = Shut
+sequelOf End = Finish
+sequelOf (Number k) = NoSequel
+sequelOf (Truth b) = NoSequel
+sequelOf Name = NoSequel
+sequelOf (Prefix o) = NoSequel
+sequelOf Open = NoSequel
+sequelOf If = NoSequel
+sequelOf Let = NoSequel
+sequelOf TooLarge = NoSequel
+sequelOf Bad = NoSequel
+
+abbrev pub goneOn : Sequel → State → TokenKind → ℕ → Step
+goneOn (Join o) s k p = joined o p (ended (ends o) s) (endings (ends o) s)
+goneOn (TurnTo w) s k p = turned (turnOf w) p (ended 0 s) (endings 0 s)
+goneOn Bring s k p = brought (turned inOf p (ended 0 s) (endings 0 s))
+goneOn Shut s k p = shut p (ended 0 s) (endings 0 s)
+goneOn Finish s k p = finished p (ended 0 s) (endings 0 s)
+goneOn NoSequel s k p = Err (misplaced k p)
 
 abbrev pub duly : Due → State → TokenKind → ℕ → List ℕ → Step
-duly Operand s k p x = begun s k p x
+duly Operand s k p x = begun (openingOf k) s k p x
 duly BinderDue s k p x = bound s k p x
 duly Equals s k p x = equated s k p
-duly OperatorDue s k p x = goneOn s k p
+duly OperatorDue s k p x = goneOn (sequelOf k) s k p
 
 -- one step
 abbrev pub feed : State → Lexeme → Step

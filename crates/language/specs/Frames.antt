@@ -66,17 +66,21 @@ kindOf (Prefix o) = PrefixKind o
 abbrev pub joint : Frame → ℕ → Entry
 joint f n = entry (kindOf (f .mark)) (plus 0) (n + 1 - f .whole) (f .place)
 
+-- a let in its second expression, where its name is in scope
+abbrev pub isBody : Mark → Bool
+isBody Paren = false
+isBody Condition = false
+isBody Then = false
+isBody Else = false
+isBody Binder = false
+isBody Value = false
+isBody Body = true
+isBody (Binary o) = false
+isBody (Prefix o) = false
+
 -- the names in scope once a frame has ended
 abbrev pub leaving : Mark → List (List ℕ) → List (List ℕ)
-leaving Paren xs = xs
-leaving Condition xs = xs
-leaving Then xs = xs
-leaving Else xs = xs
-leaving Binder xs = xs
-leaving Value xs = xs
-leaving Body xs = drop 1 xs
-leaving (Binary o) xs = xs
-leaving (Prefix o) xs = xs
+leaving m xs = cond (isBody m) (drop 1 xs) xs
 
 -- where each frame on top that binds at the level k ends: the frames that stay, the entries after n entries, the scope
 abbrev pub left : ℕ → List Frame → List Frame

@@ -59,13 +59,25 @@ word w =
     (cond (sameBytes w (codes "let")) Let (cond (sameBytes w (codes "in")) In (cond (sameBytes w (codes "not")) (Prefix Not)
     (cond (sameBytes w (codes "true")) (Truth true) (cond (sameBytes w (codes "false")) (Truth false) Name)))))))
 
--- a mark of two bytes if one fits, else of one byte
+-- the marks of two bytes and of one byte
+abbrev pub twoMark : ℕ → ℕ → Option TokenKind
+twoMark b c =
+    cond (eqb b 43 && eqb c 43) (Some (Prefix Increment)) (cond (eqb b 38 && eqb c 38) (Some (Binary And))
+    (cond (eqb b 124 && eqb c 124) (Some (Binary Or)) (cond (eqb b 60 && eqb c 61) (Some (Binary AtMost)) None)))
+
+abbrev pub oneMark : ℕ → Option TokenKind
+oneMark b =
+    cond (eqb b 43) (Some (Binary Plus)) (cond (eqb b 42) (Some (Binary Times)) (cond (eqb b 61) (Some (Binary Equal))
+    (cond (eqb b 40) (Some Open) (cond (eqb b 41) (Some Close) None))))
+
+-- two bytes if they are a mark, else one
+abbrev pub markBy : Option TokenKind → Option TokenKind → TokenKind × ℕ
+markBy (Some k) o = (k, 2)
+markBy None (Some k) = (k, 1)
+markBy None None = (Bad, 0)
+
 abbrev pub mark : ℕ → ℕ → TokenKind × ℕ
-mark b c =
-    cond (eqb b 43 && eqb c 43) (Prefix Increment, 2) (cond (eqb b 38 && eqb c 38) (Binary And, 2)
-    (cond (eqb b 124 && eqb c 124) (Binary Or, 2) (cond (eqb b 60 && eqb c 61) (Binary AtMost, 2)
-    (cond (eqb b 43) (Binary Plus, 1) (cond (eqb b 42) (Binary Times, 1) (cond (eqb b 61) (Binary Equal, 1)
-    (cond (eqb b 40) (Open, 1) (cond (eqb b 41) (Close, 1) (Bad, 0)))))))))
+mark b c = markBy (twoMark b c) (oneMark b)
 
 -- a run of digits, and a run of letters and digits, at the start of a text, each with its length
 abbrev pub numeralAt : Bool → List ℕ → TokenKind × ℕ

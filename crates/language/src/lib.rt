@@ -4,6 +4,7 @@ mod entry;
 mod frame;
 mod operator;
 mod rows;
+mod step;
 mod token;
 
 pub use entry::Entry;
@@ -16,5 +17,8 @@ pub use operator::Prefix;
 pub use operator::PrefixRow;
 pub use operator::Row;
 pub use operator::ValueType;
+pub use step::Opening;
+pub use step::Sequel;
+pub use step::Turn;
 pub use token::Token;
 pub use token::TokenKind;

@@ -50,3 +50,7 @@ found-field x xs r none e = e ∙ sym (ap (λ ys. position x (newestFirst ys)) (
 pub found-more : (r : Option ℕ) (m n : ℕ) → m ≤ n → found r (λ i. i < m) → found r (λ i. i < n)
 found-more None m n h f = tt
 found-more (Some i) m n h f = omega arith
+
+pub newest-drop : (xs : List (RefT (List ℕ))) (n : ℕ) (d : RefT (List ℕ)) → n ≤ length xs → newestFirst (take (n - 1) xs) ≡ drop 1 (newestFirst (take n xs))
+newest-drop xs zero d h = refl
+newest-drop xs (suc n) d h = sym (ap (drop 1) (newest-last xs (suc n) d (omega arith) h))

@@ -49,7 +49,7 @@ top-last fs (suc n) h =
     ap (λ k. getD fs k (frame Paren 0 0 0) ∷ topFrames fs k) (sym e)
 
 -- by a test
-by-cases : (b : Bool) (P : Type 0) → (b ≡ true → P) → (b ≡ false → P) → P
+pub by-cases : (b : Bool) (P : Type 0) → (b ≡ true → P) → (b ≡ false → P) → P
 by-cases true P f g = f refl
 by-cases false P f g = g refl
 

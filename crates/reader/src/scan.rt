@@ -14,7 +14,8 @@ ghost use Prim.Native.Nat.{_≤_, _<_, min};
 ghost use mathlib.Core.Bool.{true};
 ghost use mathlib.Core.Path.{_≡_};
 ghost use lib.ListN.{length, drop};
-ghost use Rattle.language.specs.Tokens.{valueFrom, numeral, word, mark, isMinus, numeralAt, longer, wordAt, scanned};
+ghost use Rattle.std.specs.Options.{isSome};
+ghost use Rattle.language.specs.Tokens.{valueFrom, numeral, word, twoMark, oneMark, mark, isMinus, numeralAt, longer, wordAt, scanned};
 
 // The number that the digits write, or 256 where it is more.
 fn value(digits: &[u8]) -> u16
@@ -74,23 +75,46 @@ fn word_of(bytes: &[u8]) -> TokenKind
     }
 }
 
+// The mark of these two bytes.
+fn two_mark(first: u8, second: u8) -> Option<TokenKind>
+    ensures value { λ r. ⌜ r ≡ twoMark first second ⌝ }
+    ensures two { λ r. ⌜ (isSome r ≡ true → 0 < second) ⌝ }
+{
+    match (first, second) {
+        (b'+', b'+') => Some(TokenKind::Prefix(Prefix::Increment)),
+        (b'&', b'&') => Some(TokenKind::Binary(Operator::And)),
+        (b'|', b'|') => Some(TokenKind::Binary(Operator::Or)),
+        (b'<', b'=') => Some(TokenKind::Binary(Operator::AtMost)),
+        _ => None,
+    }
+}
+
+// The mark of this one byte.
+fn one_mark(first: u8) -> Option<TokenKind>
+    ensures { λ r. ⌜ r ≡ oneMark first ⌝ }
+{
+    match first {
+        b'+' => Some(TokenKind::Binary(Operator::Plus)),
+        b'*' => Some(TokenKind::Binary(Operator::Times)),
+        b'=' => Some(TokenKind::Binary(Operator::Equal)),
+        b'(' => Some(TokenKind::Open),
+        b')' => Some(TokenKind::Close),
+        _ => None,
+    }
+}
+
 // The mark that begins with these two bytes, and how many of them it has.
 fn mark_of(first: u8, second: u8) -> (TokenKind, usize)
     ensures value { λ r. ⌜ r ≡ mark first second ⌝ }
     ensures few { λ r. ⌜ r .1 ≤ 2 ⌝ }
     ensures two { λ r. ⌜ (1 < r .1 → 0 < second) ⌝ }
 {
-    match (first, second) {
-        (b'+', b'+') => (TokenKind::Prefix(Prefix::Increment), 2),
-        (b'&', b'&') => (TokenKind::Binary(Operator::And), 2),
-        (b'|', b'|') => (TokenKind::Binary(Operator::Or), 2),
-        (b'<', b'=') => (TokenKind::Binary(Operator::AtMost), 2),
-        (b'+', _) => (TokenKind::Binary(Operator::Plus), 1),
-        (b'*', _) => (TokenKind::Binary(Operator::Times), 1),
-        (b'=', _) => (TokenKind::Binary(Operator::Equal), 1),
-        (b'(', _) => (TokenKind::Open, 1),
-        (b')', _) => (TokenKind::Close, 1),
-        _ => (TokenKind::Bad, 0),
+    match two_mark(first, second) {
+        Some(kind) => (kind, 2),
+        None => match one_mark(first) {
+            Some(kind) => (kind, 1),
+            None => (TokenKind::Bad, 0),
+        },
     }
 }
 

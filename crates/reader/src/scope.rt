@@ -2,13 +2,11 @@
 
 use crate::bytes::same;
 use crate::names::Names;
-ghost use Prim.Native.Nat.{ℕ, _+_, _<_};
-ghost use mathlib.Core.List.{_∷_};
+ghost use Prim.Native.Nat.{ℕ, _+_, _-_, _<_};
+ghost use mathlib.Core.List.{_∷_, _++_};
 ghost use mathlib.Core.Path.{_≡_};
 ghost use lib.ListN.{length, take, drop};
-ghost use Rattle.std.specs.Options.{mapped};
 ghost use Rattle.std.specs.Slices.{found};
-ghost use Rattle.std.specs.Vec.{listOf};
 ghost use Rattle.language.specs.Names.{fieldNames, find, position};
 ghost use Rattle.reader.specs.Scopes.{newestFirst, held};
 
@@ -35,17 +33,25 @@ impl<'a> Names<'a> {
     }
 
     /// Takes the name on top off.
-    pub(crate) fn pop(&mut self) -> Option<&'a [u8]>
-        ensures name { λ r. ⌜ listOf (mapped now r) ≡ take 1 (held (now (self .entry))) ⌝ }
+    pub(crate) fn pop(&mut self)
         ensures held { λ _. ⌜ held (now (self .exit)) ≡ drop 1 (held (now (self .entry))) ⌝ }
-        ensures count { λ r. ⌜ now (self .exit) .count + length (listOf r) ≡ now (self .entry) .count ⌝ }
+        ensures count { λ _. ⌜ now (self .exit) .count ≡ now (self .entry) .count - 1 ⌝ }
     {
-        let count = self.count;
-        if count == 0 {
-            return None;
-        }
-        self.count = count - 1;
-        Some(self.names[count - 1])
+        self.count = self.count.saturating_sub(1);
+    }
+
+    /// Takes the name on top off and puts it on top of the others.
+    pub(crate) fn hand_over(&mut self, others: &mut Names<'a>)
+        requires some { ⌜ 0 < now self .count ⌝ }
+        requires room { ⌜ now others .count < 64 ⌝ }
+        ensures held { λ _. ⌜ held (now (self .exit)) ≡ drop 1 (held (now (self .entry))) ⌝ }
+        ensures others { λ _. ⌜ held (now (others .exit)) ≡ take 1 (held (now (self .entry))) ++ held (now (others .entry)) ⌝ }
+        ensures count { λ _. ⌜ now (self .exit) .count + 1 ≡ now (self .entry) .count ⌝ }
+        ensures counted { λ _. ⌜ now (others .exit) .count ≡ now (others .entry) .count + 1 ⌝ }
+    {
+        let last = self.count - 1;
+        others.push(self.names[last]);
+        self.count = last;
     }
 
     /// The position of a name, the newest name being the innermost binding and the fields standing outside all names.

@@ -1,11 +1,17 @@
-use mathlib.Core.Path.{sym, ap}
+use mathlib.Core.List.{[]}
+use mathlib.Core.Path.{ap, _∙_}
 use native.Mathlib.Omega.{arith}
-use lib.ListN.{take, drop}
-use Rattle.reader.proofs.Scopes.{newest-last}
+use lib.ListN.{take}
+use Rattle.reader.specs.Scopes.{newestFirst}
+use Rattle.reader.proofs.Scopes.{newest-drop}
 use Rattle.reader.proofs.names.Names.pop.Needs as need
 
 pub returns : need.returns
 returns c =
     let few = c .args .self .now .few in
-    let e = newest-last (c .args .self .now .names) (c .args .self .now .count) _ (omega arith) (omega arith) in
-    record { name = sym (ap (take 1) e); held = sym (ap (drop 1) e); count = omega arith }
+    record {
+      held =
+          ap (λ k. newestFirst (take k (c .args .self .now .names))) (c .saturating-sub-self .ensures)
+          ∙ newest-drop (c .args .self .now .names) (c .args .self .now .count) (record { ptr = (0, 0); name = 0; now = [] }) (omega arith);
+      count = c .saturating-sub-self .ensures;
+    }
