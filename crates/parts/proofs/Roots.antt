@@ -163,7 +163,7 @@ at-choose (truth b p) s d e f h = let z : _≡_ {A = ℕ} 0 1 = cc in absurd (om
 at-choose (name k p) s d e f h = let z : _≡_ {A = ℕ} 0 1 = cc in absurd (omega arith)
 at-choose (prefix o p t) s d e f h = let z : _≡_ {A = ℕ} 0 1 = cc in absurd (omega arith)
 at-choose (binary o p t u) s d e f h = let z : _≡_ {A = ℕ} 0 1 = cc in absurd (omega arith)
-at-choose (choose p t u v) s d e f h = 
+at-choose (choose p t u v) s d e f h =
     let two : length (flatten t ++ flatten u) ≡ size t + size u = length-append (flatten t) (flatten u) ∙ ap (λ n. n + length (flatten u)) (length-flatten t) ∙ ap (λ n. size t + n) (length-flatten u) in
     let grouped : flatten t ++ (flatten u ++ flatten v) ≡ (flatten t ++ flatten u) ++ flatten v = sym (append-assoc (flatten t) (flatten u) (flatten v)) in
     let g : Some d ≡ Some (length (flatten t ++ flatten u)) = f (flatten t ++ flatten u) v grouped in
@@ -179,7 +179,7 @@ not-cut-choose (truth b p) e f = let z : _≡_ {A = ℕ} 0 1 = cc in absurd (ome
 not-cut-choose (name k p) e f = let z : _≡_ {A = ℕ} 0 1 = cc in absurd (omega arith)
 not-cut-choose (prefix o p t) e f = let z : _≡_ {A = ℕ} 0 1 = cc in absurd (omega arith)
 not-cut-choose (binary o p t u) e f = let z : _≡_ {A = ℕ} 0 1 = cc in absurd (omega arith)
-not-cut-choose (choose p t u v) e f = 
+not-cut-choose (choose p t u v) e f =
     let g : None ≡ Some (length (flatten t ++ flatten u)) = f (flatten t ++ flatten u) v (sym (append-assoc (flatten t) (flatten u) (flatten v))) in
     let z : _≡_ {A = ℕ} 0 1 = cc in absurd (omega arith)
 not-cut-choose (bind p t u) e f = let z : _≡_ {A = ℕ} 0 1 = cc in absurd (omega arith)

@@ -112,7 +112,10 @@ choose-table es (choose q t u v) p c d h e =
     let m : length (flatten t ++ flatten u) ≡ d = length-append (flatten t) (flatten u) ∙ omega (arith, length-flatten u) in
     let f : length (flatten v) ≡ length es - 1 - d = omega (arith, length-flatten u) in
     record {
-      test = t; first = u; second = v; is = same;
+      test = t;
+      first = u;
+      second = v;
+      is = same;
       front = first-of (flatten t) _ es c h a;
       middle = next-of (flatten t) (flatten u) _ es c d h a b;
       back = next-of (flatten t ++ flatten u) (flatten v) _ es d (length es - 1) g m f;
