@@ -1,2 +1,4 @@
 mod Measured
 mod Placed
+mod Added
+mod Emitted

@@ -77,3 +77,9 @@ pub above-missing : (xs : List ℕ) (n high k : ℕ) → n ≤ k →
 above-missing xs n high k h s e l =
     let m : length (spotsOf s) ≡ n = ap length e ∙ length-newest xs n in
     sym l ∙ above-none s k (omega arith)
+
+pub newest-same : {xs ys : List ℕ} {n m : ℕ} → xs ≡ ys → n ≡ m → newest xs n ≡ newest ys m
+newest-same {xs = xs} {m = m} e k = ap (newest xs) k ∙ ap (λ x. newest x m) e
+
+pub cons-same : {a b : ℕ} {xs ys : List ℕ} → a ≡ b → xs ≡ ys → a ∷ xs ≡ b ∷ ys
+cons-same p q = cc

@@ -1,2 +1,3 @@
 pub mod Shapes
 pub mod Layouts
+pub mod Emitting
