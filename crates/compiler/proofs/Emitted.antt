@@ -145,7 +145,12 @@ module _ (es : List Entry) (spots : List ℕ) (high room : ℕ) (b₀ : List Wor
   binary-pair o p c root t h =
       let v = binary-table es t o p c h (root t h) in
       record {
-        one = v .left; two = v .right; left = v .front; right = v .back; tops = ap tall (v .is); wides = ap wide (v .is);
+        one = v .left;
+        two = v .right;
+        left = v .front;
+        right = v .back;
+        tops = ap tall (v .is);
+        wides = ap wide (v .is);
         all = λ s. ap (words s) (v .is) ∙ pair-words waiting (rowOf o .instruction) s (v .left) (v .right);
       }
 
@@ -154,7 +159,12 @@ module _ (es : List Entry) (spots : List ℕ) (high room : ℕ) (b₀ : List Wor
   bind-pair c root t h =
       let v = bind-table es t c h (root t h) in
       record {
-        one = v .value; two = v .rest; left = v .front; right = v .back; tops = ap tall (v .is); wides = ap wide (v .is);
+        one = v .value;
+        two = v .rest;
+        left = v .front;
+        right = v .back;
+        tops = ap tall (v .is);
+        wides = ap wide (v .is);
         all = λ s. ap (words s) (v .is) ∙ pair-words bound (Popi 1) s (v .value) (v .rest);
       }
 
@@ -240,9 +250,18 @@ module _ (es : List Entry) (spots : List ℕ) (high room : ℕ) (b₀ : List Wor
         let j′ : Branch (plus (long (v .first) + 1)) ≡ j = sym (j-is ∙ ap (λ x. Branch (plus x)) k₁) in
         let i′ : Branchif (plus (long (v .second) + 2)) ≡ i = sym (i-is ∙ ap (λ x. Branchif (plus x)) k₂) in
         record {
-          test = v .test; first = v .first; second = v .second; at-test = v .front; at-first = v .middle; at-second = v .back;
-          low-test = omega arith; low-first = omega arith; low-second = omega arith;
-          thin-test = none-left _ _ w; thin-first = none-left _ _ w₁; thin-second = none-left _ _ w₂;
+          test = v .test;
+          first = v .first;
+          second = v .second;
+          at-test = v .front;
+          at-first = v .middle;
+          at-second = v .back;
+          low-test = omega arith;
+          low-first = omega arith;
+          low-second = omega arith;
+          thin-test = none-left _ _ w;
+          thin-first = none-left _ _ w₁;
+          thin-second = none-left _ _ w₂;
           all = ap (words s) (v .is) ∙ choice-words _ _ s (v .test) (v .first) (v .second)
               ∙ ap (λ x. words s (v .test) ++ (written x ∷ (words s (v .second) ++ (written (Branch (plus (long (v .first) + 1))) ∷ words s (v .first))))) i′
               ∙ ap (λ x. words s (v .test) ++ (written i ∷ (words s (v .second) ++ (written x ∷ words s (v .first))))) j′;

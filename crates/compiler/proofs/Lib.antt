@@ -2,3 +2,4 @@ mod Measured
 mod Placed
 mod Added
 mod Emitted
+mod Translated

@@ -2,6 +2,13 @@
 
 mod emit;
 mod layout;
+mod measure;
 mod shape;
 mod shapes;
+mod writing;
 
+pub use measure::Measure;
+pub use writing::translate;
+
+#[cfg(test)]
+mod tests;
