@@ -1,6 +1,6 @@
 //! Where on the stack the bindings in scope stand.
 
-ghost use Prim.Native.Nat.{_+_, _≤_, _<_, min};
+ghost use Prim.Native.Nat.{_+_, _-_, _≤_, _<_};
 ghost use mathlib.Core.List.{List, _∷_};
 ghost use mathlib.Core.Path.{_≡_};
 ghost use lib.ListN.{length};
@@ -16,6 +16,14 @@ pub struct Layout {
     pub height: usize,
     ghost within: { bindings ≤ height },
     ghost bounded: { height ≤ 520 },
+}
+
+// How many of so many words stand above the one that has this many below it.
+fn from_top(height: usize, below: usize) -> usize
+    requires { ⌜ 0 < height ⌝ }
+    ensures { λ r. ⌜ r ≡ height - 1 - below ⌝ }
+{
+    (height - 1).saturating_sub(below)
 }
 
 impl Layout {
@@ -88,8 +96,7 @@ impl Layout {
     {
         let position = position as usize;
         if position < self.bindings {
-            let below = self.spots[self.bindings - 1 - position];
-            (self.height - 1).saturating_sub(below)
+            from_top(self.height, self.spots[self.bindings - 1 - position])
         } else {
             self.height
         }

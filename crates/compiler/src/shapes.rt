@@ -1,7 +1,7 @@
 //! The shape of a table's code, from the shapes of its parts.
 
 use crate::shape::Shape;
-ghost use Prim.Native.Nat.{_+_, _*_, _≤_, max};
+ghost use Prim.Native.Nat.{_*_, _≤_};
 ghost use mathlib.Core.Path.{_≡_};
 ghost use lib.ListN.{length};
 ghost use Rattle.language.specs.Code.{orElse};

@@ -48,7 +48,7 @@ pub fn translate<M: CodeMemory>(entries: &[Entry], memory: &mut M) -> Result<Mea
     ensures code { λ _. ⌜ ((t : Tree) → now (entries .entry) ≡ flatten t → length (now (entries .entry)) ≤ 512 → listed (now (memory .exit)) ≡ codeAfter (refusalOf (room (now (memory .entry))) t) t (listed (now (memory .entry)))) ⌝ }
     ensures kept { λ r. ⌜ ((t : Tree) → now (entries .entry) ≡ flatten t → Cases r (λ _. Unit {0}) (λ _. now (memory .exit) ≡ now (memory .entry))) ⌝ }
     ensures bounds { λ r. ⌜ Cases r (λ m. (m .length ≤ 3 * length (now (entries .entry))) × (8 ≤ m .height) × (m .height ≤ 128)) (λ _. Unit {0}) ⌝ }
-    ensures refused { λ r. ⌜ (512 < length (now (entries .entry)) → r ≡ Err (TooManyEntries (length (now (entries .entry))))) ⌝ }
+    ensures refused { λ r. ⌜ (512 < length (now (entries .entry)) → (r ≡ Err (TooManyEntries (length (now (entries .entry))))) × (now (memory .exit) ≡ now (memory .entry))) ⌝ }
 {
     if entries.len() > 512 {
         return Err(Refusal::TooManyEntries(entries.len()));

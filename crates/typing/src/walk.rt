@@ -2,11 +2,9 @@
 
 use crate::scope::Scope;
 ghost use Prim.Native.Nat.{_+_, _≤_, _<_};
-ghost use mathlib.Core.Bool.{true};
 ghost use mathlib.Core.Path.{_≡_};
 ghost use lib.ListN.{length};
 ghost use Rattle.std.specs.declared.result.Result.the-variants.{Err};
-ghost use Rattle.language.specs.Operators.{rowOf, prefixRowOf};
 ghost use Rattle.language.specs.Tree.{Tree, flatten};
 ghost use Rattle.language.specs.Typing.{sameType, fitting, known, typed, typeOf};
 ghost use Rattle.refusal.specs.declared.Refusal.the-variants.{TooManyEntries};

@@ -15,7 +15,7 @@ pub returns-in-Break-a : need.returns-in-Break-a
 returns-in-Break-a t c =
     let env = innermost (c .args .scope .now .types) (c .args .scope .now .count) in
     let p = err-from-errBy (c .from-residual .result) (c .from-residual .ensures .1) in
-    let e : _≡_ {A = Result ValueType Refusal} (c .from-residual .result) (Err (c .in-Break-a .field-0 .0)) = cc in
+    let e : _≡_ {A = Result ValueType Refusal} (c .from-residual .result) (Err (c .in-Break-a .field-0 .0)) = p .1 ∙ ap Err (p .2) in
     record {
       count = c .type-of .ensures .count;
       kept = c .type-of .ensures .kept;
@@ -35,7 +35,7 @@ pub returns-in-Break-a-2 : need.returns-in-Break-a-2
 returns-in-Break-a-2 t c =
     let env = innermost (c .args .scope .now .types) (c .args .scope .now .count) in
     let p = err-from-errBy (c .from-residual-in-Break-a-2 .result) (c .from-residual-in-Break-a-2 .ensures .1) in
-    let e : _≡_ {A = Result ValueType Refusal} (c .from-residual-in-Break-a-2 .result) (Err (c .in-Break-a-2 .field-0 .0)) = cc in
+    let e : _≡_ {A = Result ValueType Refusal} (c .from-residual-in-Break-a-2 .result) (Err (c .in-Break-a-2 .field-0 .0)) = p .1 ∙ ap Err (p .2) in
     record {
       count = c .type-of-in-Binary .ensures .count;
       kept = c .type-of-in-Binary .ensures .kept;
@@ -46,7 +46,7 @@ pub returns-in-Break-b : need.returns-in-Break-b
 returns-in-Break-b t c =
     let env = innermost (c .args .scope .now .types) (c .args .scope .now .count) in
     let p = err-from-errBy (c .from-residual-in-Break-b .result) (c .from-residual-in-Break-b .ensures .1) in
-    let e : _≡_ {A = Result ValueType Refusal} (c .from-residual-in-Break-b .result) (Err (c .in-Break-b .field-0 .0)) = cc in
+    let e : _≡_ {A = Result ValueType Refusal} (c .from-residual-in-Break-b .result) (Err (c .in-Break-b .field-0 .0)) = p .1 ∙ ap Err (p .2) in
     record {
       count = c .type-of-in-Binary-2 .ensures .count ∙ c .type-of-in-Binary .ensures .count;
       kept = c .type-of-in-Binary-2 .ensures .kept ∙ c .type-of-in-Binary .ensures .kept;
@@ -66,7 +66,7 @@ pub returns-in-Break-a-3 : need.returns-in-Break-a-3
 returns-in-Break-a-3 t c =
     let env = innermost (c .args .scope .now .types) (c .args .scope .now .count) in
     let p = err-from-errBy (c .from-residual-in-Break-a-3 .result) (c .from-residual-in-Break-a-3 .ensures .1) in
-    let e : _≡_ {A = Result ValueType Refusal} (c .from-residual-in-Break-a-3 .result) (Err (c .in-Break-a-3 .field-0 .0)) = cc in
+    let e : _≡_ {A = Result ValueType Refusal} (c .from-residual-in-Break-a-3 .result) (Err (c .in-Break-a-3 .field-0 .0)) = p .1 ∙ ap Err (p .2) in
     record {
       count = c .type-of-in-If .ensures .count;
       kept = c .type-of-in-If .ensures .kept;
@@ -77,7 +77,7 @@ pub returns-in-Break-b-2 : need.returns-in-Break-b-2
 returns-in-Break-b-2 t c =
     let env = innermost (c .args .scope .now .types) (c .args .scope .now .count) in
     let p = err-from-errBy (c .from-residual-in-Break-b-2 .result) (c .from-residual-in-Break-b-2 .ensures .1) in
-    let e : _≡_ {A = Result ValueType Refusal} (c .from-residual-in-Break-b-2 .result) (Err (c .in-Break-b-2 .field-0 .0)) = cc in
+    let e : _≡_ {A = Result ValueType Refusal} (c .from-residual-in-Break-b-2 .result) (Err (c .in-Break-b-2 .field-0 .0)) = p .1 ∙ ap Err (p .2) in
     record {
       count = c .type-of-in-If-2 .ensures .count ∙ c .type-of-in-If .ensures .count;
       kept = c .type-of-in-If-2 .ensures .kept ∙ c .type-of-in-If .ensures .kept;
@@ -88,7 +88,7 @@ pub returns-in-Break-c : need.returns-in-Break-c
 returns-in-Break-c t c =
     let env = innermost (c .args .scope .now .types) (c .args .scope .now .count) in
     let p = err-from-errBy (c .from-residual-in-Break-c .result) (c .from-residual-in-Break-c .ensures .1) in
-    let e : _≡_ {A = Result ValueType Refusal} (c .from-residual-in-Break-c .result) (Err (c .in-Break-c .field-0 .0)) = cc in
+    let e : _≡_ {A = Result ValueType Refusal} (c .from-residual-in-Break-c .result) (Err (c .in-Break-c .field-0 .0)) = p .1 ∙ ap Err (p .2) in
     record {
       count = c .type-of-in-If-3 .ensures .count ∙ c .type-of-in-If-2 .ensures .count ∙ c .type-of-in-If .ensures .count;
       kept = c .type-of-in-If-3 .ensures .kept ∙ c .type-of-in-If-2 .ensures .kept ∙ c .type-of-in-If .ensures .kept;
@@ -108,7 +108,7 @@ pub returns-in-Break-a-4 : need.returns-in-Break-a-4
 returns-in-Break-a-4 t c =
     let env = innermost (c .args .scope .now .types) (c .args .scope .now .count) in
     let p = err-from-errBy (c .from-residual-in-Break-a-4 .result) (c .from-residual-in-Break-a-4 .ensures .1) in
-    let e : _≡_ {A = Result ValueType Refusal} (c .from-residual-in-Break-a-4 .result) (Err (c .in-Break-a-4 .field-0 .0)) = cc in
+    let e : _≡_ {A = Result ValueType Refusal} (c .from-residual-in-Break-a-4 .result) (Err (c .in-Break-a-4 .field-0 .0)) = p .1 ∙ ap Err (p .2) in
     record {
       count = c .type-of-in-Let .ensures .count;
       kept = c .type-of-in-Let .ensures .kept;
