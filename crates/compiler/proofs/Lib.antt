@@ -1,0 +1,5 @@
+mod Measured
+mod Placed
+mod Added
+mod Emitted
+mod Translated

@@ -1,0 +1,4 @@
+pub mod Shapes
+pub mod Layouts
+pub mod Emitting
+pub mod Translating

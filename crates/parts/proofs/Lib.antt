@@ -1,0 +1,2 @@
+pub mod Tables
+mod Roots
