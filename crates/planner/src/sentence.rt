@@ -1,0 +1,23 @@
+//! Refusals in plain words.
+
+use refusal::Refusal;
+
+/// What is wrong, in one sentence.
+pub(crate) fn sentence(why: Refusal) -> &'static str {
+    match why {
+        Refusal::TextTooLong(_) => "The rule is longer than 4,096 bytes.",
+        Refusal::NoToken(_) => "No number, name, word or mark of the language begins here.",
+        Refusal::NumberTooLarge(_) => "Numbers lie between -255 and 255.",
+        Refusal::Unexpected(_) => "This cannot follow what stands before it.",
+        Refusal::UnboundName(_) => "No let around it binds this name, and no field has it.",
+        Refusal::TooDeep(_) => "Parentheses, if, let, not and ++ nest at most 64 deep.",
+        Refusal::TooManyEntries(_) => "The rule has more than 512 numbers, names and operators.",
+        Refusal::IllTyped(_) => "The operands here do not have the types that this takes.",
+        Refusal::TooHigh(_) =>
+            "The rule keeps too many values at once: its stack is higher than 128.",
+        Refusal::BranchTooLong(_) => "A branch of this if is too long to jump over.",
+        Refusal::MemoryFull(_) => "The code of the rule does not fit the memory.",
+        Refusal::BadWord(_) => "The code holds a word that is no instruction.",
+        Refusal::OutputTooShort(_) => "The listing is too long for its buffer.",
+    }
+}

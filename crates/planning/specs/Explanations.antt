@@ -1,0 +1,21 @@
+-- Where in the rule's text a refusal points.
+use Prim.Native.Nat.{ℕ}
+use Rattle.std.specs.declared.option.Option.{Option}
+use Rattle.std.specs.declared.option.Option.the-variants.{Some, None}
+use Rattle.refusal.specs.declared.Refusal.{Refusal}
+use Rattle.refusal.specs.declared.Refusal.the-variants.{TextTooLong, NoToken, NumberTooLarge, Unexpected, UnboundName, TooDeep, TooManyEntries, IllTyped, TooHigh, BranchTooLong, MemoryFull, BadWord, OutputTooShort}
+
+abbrev pub placeOf : Refusal → Option ℕ
+placeOf (TextTooLong n) = None
+placeOf (NoToken p) = Some p
+placeOf (NumberTooLarge p) = Some p
+placeOf (Unexpected p) = Some p
+placeOf (UnboundName p) = Some p
+placeOf (TooDeep p) = Some p
+placeOf (TooManyEntries n) = None
+placeOf (IllTyped p) = Some p
+placeOf (TooHigh n) = None
+placeOf (BranchTooLong p) = Some p
+placeOf (MemoryFull n) = None
+placeOf (BadWord p) = None
+placeOf (OutputTooShort n) = None
