@@ -37,3 +37,7 @@ adds-as room r s b₀ b₁ ws e f = subst (λ (x : Answer). Adds room x b₀ b�
 
 pub adds-words : (room : ℕ) (r : Answer) (b₀ b₁ ws vs : List Word) → ws ≡ vs → Adds room r b₀ b₁ vs → Adds room r b₀ b₁ ws
 adds-words room r b₀ b₁ ws vs e f = subst (λ (x : List Word). Adds room r b₀ b₁ x) (sym e) f
+
+-- one equation after another, over terms that are given
+pub via : {X : Type 0} (x y z : X) → x ≡ y → y ≡ z → x ≡ z
+via x y z p q = p ∙ q

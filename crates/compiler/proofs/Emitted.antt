@@ -27,10 +27,10 @@ use Rattle.parts.specs.declared.node.Node.the-variants.{Broken, Number as Numbe
 use Rattle.parts.proofs.Tables.{not-broken, number-table, truth-table, name-table, prefix-table, binary-table, choose-table, bind-table}
 use Rattle.compiler.specs.Emitting.{Adds, Emits}
 use Rattle.compiler.specs.Layouts.{spotsOf}
-use Rattle.compiler.specs.Shapes.{shapeOf}
-use Rattle.compiler.specs.declared.shape.Shape.{Shape}
+use Rattle.shapes.specs.Shapes.{shapeOf}
+use Rattle.shapes.specs.declared.shape.Shape.{Shape}
 use Rattle.compiler.proofs.Added.{Answer, adds-then, adds-stop, adds-at, adds-as, adds-words}
-use Rattle.compiler.proofs.Measured.{Measures, Roots}
+use Rattle.shapes.proofs.Measured.{Measures, Roots}
 
 -- the words of a tree
 abbrev pub words : List Slot → Tree → List Word

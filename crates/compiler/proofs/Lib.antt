@@ -1,4 +1,3 @@
-mod Measured
 mod Placed
 mod Added
 mod Emitted

@@ -18,11 +18,11 @@ use Rattle.language.specs.Tree.{Tree, flatten, number, truth, name, prefix, bin
 use Rattle.language.specs.declared.entry.Entry.{Entry}
 use Rattle.compiler.specs.Emitting.{Adds, Emits}
 use Rattle.compiler.specs.Layouts.{spotsOf}
-use Rattle.compiler.specs.Shapes.{shapeOf}
+use Rattle.shapes.specs.Shapes.{shapeOf}
 use Rattle.compiler.specs.Translating.{reasonFor}
-use Rattle.compiler.specs.declared.shape.Shape.{Shape}
+use Rattle.shapes.specs.declared.shape.Shape.{Shape}
 use Rattle.compiler.proofs.Added.{Answer}
-use Rattle.compiler.proofs.Measured.{Measures}
+use Rattle.shapes.proofs.Measured.{Measures}
 
 -- a tree has as many words as are counted
 long-code : (s : List Slot) (t : Tree) → length (code s t) ≡ long t

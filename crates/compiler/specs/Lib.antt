@@ -1,4 +1,3 @@
-pub mod Shapes
 pub mod Layouts
 pub mod Emitting
 pub mod Translating

@@ -14,7 +14,7 @@ use Rattle.bytecode.specs.declared.instruction.Word.{Word}
 use Rattle.language.specs.Code.{long, height, translation, branchRefusal}
 use Rattle.language.specs.Tree.{Tree}
 use Rattle.compiler.specs.declared.measure.Measure.{Measure}
-use Rattle.compiler.specs.declared.shape.Shape.{Shape}
+use Rattle.shapes.specs.declared.shape.Shape.{Shape}
 
 -- why code of that shape is not written
 abbrev pub reasonFor : ℕ → Shape → Option Refusal

@@ -1,10 +1,9 @@
 //! Writing the words of a table's tree.
 
 use crate::layout::Layout;
-use crate::shapes::measure;
 use bytecode::Argument;
 use bytecode::Instruction;
-ghost use Prim.Native.Nat.{_+_, _≤_, min};
+ghost use Prim.Native.Nat.{_+_, _^_, _≤_, _<_, min};
 ghost use mathlib.Core.List.{List, [], _∷_};
 ghost use mathlib.Core.Path.{_≡_};
 ghost use lib.ListN.{length};
@@ -17,6 +16,7 @@ use memory::CodeMemory;
 use parts::Node;
 use parts::root;
 use refusal::Refusal;
+use shapes::measure;
 
 // A number as an instruction holds it. The code of a rule that is accepted has none over 255.
 fn byte(n: usize) -> u8
@@ -27,7 +27,7 @@ fn byte(n: usize) -> u8
 
 // The jump behind a condition: over the else code, of this many words, and the jump behind it.
 fn over_else(words: usize) -> Instruction
-    requires { ⌜ words ≤ 1536 ⌝ }
+    requires { ⌜ words < 2 ^ 62 ⌝ }
     ensures { λ r. ⌜ r ≡ Branchif (plus (min (words + 2) 255)) ⌝ }
 {
     Instruction::Branchif(Argument::plus(byte(words + 2)))
@@ -35,7 +35,7 @@ fn over_else(words: usize) -> Instruction
 
 // The jump behind the else code: over the then code, of this many words.
 fn over_then(words: usize) -> Instruction
-    requires { ⌜ words ≤ 1536 ⌝ }
+    requires { ⌜ words < 2 ^ 62 ⌝ }
     ensures { λ r. ⌜ r ≡ Branch (plus (min (words + 1) 255)) ⌝ }
 {
     Instruction::Branch(Argument::plus(byte(words + 1)))
@@ -70,7 +70,6 @@ pub fn emit<M: CodeMemory>(
     layout: &mut Layout,
     memory: &mut M,
 ) -> Result<(), Refusal>
-    requires { ⌜ length (now entries) ≤ 512 ⌝ }
     requires { ⌜ now layout .height + length (now entries) ≤ 520 ⌝ }
     ensures height { λ _. ⌜ now (layout .exit) .height ≡ now (layout .entry) .height ⌝ }
     ensures bindings { λ _. ⌜ now (layout .exit) .bindings ≡ now (layout .entry) .bindings ⌝ }

@@ -3,8 +3,6 @@
 mod emit;
 mod layout;
 mod measure;
-mod shape;
-mod shapes;
 mod writing;
 
 pub use measure::Measure;

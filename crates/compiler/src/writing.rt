@@ -3,8 +3,6 @@
 use crate::emit::emit;
 use crate::layout::Layout;
 use crate::measure::Measure;
-use crate::shape::Shape;
-use crate::shapes::measure;
 ghost use Prim.Native.Nat.{_*_, _≤_, _<_};
 ghost use mathlib.Core.Path.{_≡_};
 ghost use lib.ListN.{length};
@@ -17,6 +15,8 @@ ghost use Rattle.compiler.specs.Translating.{reasonFor, answerOf, codeAfter};
 use language::Entry;
 use memory::CodeMemory;
 use refusal::Refusal;
+use shapes::Shape;
+use shapes::measure;
 
 // Why code of this shape is not written to a memory with this room.
 fn reason(shape: Shape, room: usize) -> Option<Refusal>

@@ -6,7 +6,7 @@ use Rattle.std.specs.declared.option.Option.{Option}
 use Rattle.std.specs.declared.option.Option.the-variants.{Some, None}
 use Rattle.language.specs.Code.{long, tall, wide, orElse}
 use Rattle.language.specs.Tree.{Tree}
-use Rattle.compiler.specs.declared.shape.Shape.{Shape}
+use Rattle.shapes.specs.declared.shape.Shape.{Shape}
 
 abbrev pub shape : ℕ → ℕ → Option ℕ → Shape
 shape l h w = record { length = l; tall = h; wide = w }

@@ -1,12 +1,12 @@
 //! The shape of a table's code, from the shapes of its parts.
 
 use crate::shape::Shape;
-ghost use Prim.Native.Nat.{_*_, _≤_};
+ghost use Prim.Native.Nat.{_*_, _^_, _≤_, _<_};
 ghost use mathlib.Core.Path.{_≡_};
 ghost use lib.ListN.{length};
 ghost use Rattle.language.specs.Code.{orElse};
 ghost use Rattle.language.specs.Tree.{Tree, flatten};
-ghost use Rattle.compiler.specs.Shapes.{shapeOf, leafShape, prefixShape, pairShape, choiceShape, wideAt};
+ghost use Rattle.shapes.specs.Shapes.{shapeOf, leafShape, prefixShape, pairShape, choiceShape, wideAt};
 use language::Entry;
 use parts::Node;
 use parts::root;
@@ -34,7 +34,7 @@ fn leaf() -> Shape
 
 // A prefix: its operand is pushed, and a constant worked in.
 fn prefix(a: Shape) -> Shape
-    requires { ⌜ a .length ≤ 1536 ⌝ }
+    requires { ⌜ a .length < 2 ^ 62 ⌝ }
     ensures { λ r. ⌜ r ≡ prefixShape a ⌝ }
 {
     Shape {
@@ -46,9 +46,9 @@ fn prefix(a: Shape) -> Shape
 
 // Two parts, the second over the pushed value of the first, and a word behind each.
 fn pair(a: Shape, b: Shape) -> Shape
-    requires { ⌜ a .length ≤ 1536 ⌝ }
-    requires { ⌜ b .length ≤ 1536 ⌝ }
-    requires { ⌜ b .tall ≤ 512 ⌝ }
+    requires { ⌜ a .length < 2 ^ 62 ⌝ }
+    requires { ⌜ b .length < 2 ^ 62 ⌝ }
+    requires { ⌜ b .tall < 2 ^ 62 ⌝ }
     ensures { λ r. ⌜ r ≡ pairShape a b ⌝ }
 {
     Shape {
@@ -71,9 +71,9 @@ fn wide_at(place: usize, then_length: usize, else_length: usize) -> Option<usize
 
 // An if: a jump behind its condition, and one behind its else code.
 fn choice(place: usize, a: Shape, b: Shape, c: Shape) -> Shape
-    requires { ⌜ a .length ≤ 1536 ⌝ }
-    requires { ⌜ b .length ≤ 1536 ⌝ }
-    requires { ⌜ c .length ≤ 1536 ⌝ }
+    requires { ⌜ a .length < 2 ^ 62 ⌝ }
+    requires { ⌜ b .length < 2 ^ 62 ⌝ }
+    requires { ⌜ c .length < 2 ^ 62 ⌝ }
     ensures { λ r. ⌜ r ≡ choiceShape place a b c ⌝ }
 {
     let own = wide_at(place, b.length, c.length);
@@ -86,7 +86,6 @@ fn choice(place: usize, a: Shape, b: Shape, c: Shape) -> Shape
 
 /// The shape of the code of the tree in the table: at most three words for an entry, and on the stack at most one.
 pub fn measure(entries: &[Entry]) -> Shape
-    requires { ⌜ length (now entries) ≤ 512 ⌝ }
     ensures length { λ r. ⌜ r .length ≤ 3 * length (now (entries .entry)) ⌝ }
     ensures tall { λ r. ⌜ r .tall ≤ length (now (entries .entry)) ⌝ }
     ensures value { λ r. ⌜ ((t : Tree) → now (entries .entry) ≡ flatten t → r ≡ shapeOf t) ⌝ }

@@ -1,5 +1,5 @@
-use Rattle.compiler.proofs.Measured.{prefix-measured, binary-measured, bind-measured, choose-measured, prefix-bounded, pair-bounded, choice-bounded}
-use Rattle.compiler.proofs.shapes.+measure.Needs as need
+use Rattle.shapes.proofs.Measured.{prefix-measured, binary-measured, bind-measured, choose-measured, prefix-bounded, pair-bounded, choice-bounded}
+use Rattle.shapes.proofs.walk.+measure.Needs as need
 
 pub returns-in-Prefix : need.returns-in-Prefix
 returns-in-Prefix t c =

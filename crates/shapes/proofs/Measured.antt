@@ -12,8 +12,8 @@ use Rattle.parts.specs.Nodes.{nodeOf}
 use Rattle.parts.specs.declared.node.Node.{Node}
 use Rattle.parts.specs.declared.node.Node.the-variants.{Prefix as PrefixNode, Binary as BinaryNode, If as IfNode, Let as LetNode}
 use Rattle.parts.proofs.Tables.{prefix-table, binary-table, choose-table, bind-table}
-use Rattle.compiler.specs.Shapes.{shapeOf, prefixShape, pairShape, choiceShape}
-use Rattle.compiler.specs.declared.shape.Shape.{Shape}
+use Rattle.shapes.specs.Shapes.{shapeOf, prefixShape, pairShape, choiceShape}
+use Rattle.shapes.specs.declared.shape.Shape.{Shape}
 
 -- the shape of a table's code, whatever tree it holds
 abbrev pub Measures : List Entry → Shape → Type 0
