@@ -1,3 +1,0 @@
-pub mod Runs
-pub mod Numerals
-pub mod Lexes
