@@ -1,6 +1,7 @@
 //! A code memory in 64 records of 16 bytes.
 
 use crate::append::append_word;
+use crate::bytes::count_in;
 use crate::bytes::read_word;
 use crate::clear::clear_words;
 use crate::cursor::Cursor;
@@ -83,7 +84,7 @@ impl RecordMemory {
         ensures within { λ r. ⌜ r .1 .index ≤ recordsFor (count (now (self .entry) .bytes)) ⌝ }
         ensures stands { λ r. ⌜ r .1 .record ≡ reached (now (self .entry) .bytes) (r .1 .index) ⌝ }
     {
-        let count = 256 * self.bytes[2] as usize + self.bytes[3] as usize;
+        let count = count_in(&self.bytes);
         if place >= count {
             return (None, self.cursor);
         }
@@ -105,7 +106,7 @@ pub impl CodeMemory for RecordMemory as RecordMemoryIsCodeMemory {
     ghost room = { λ _. 315 };
 
     fn count(&self) -> usize {
-        256 * self.bytes[2] as usize + self.bytes[3] as usize
+        count_in(&self.bytes)
     }
 
     fn capacity(&self) -> usize {

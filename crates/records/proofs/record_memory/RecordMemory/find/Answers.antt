@@ -1,14 +1,14 @@
-use Prim.Native.Nat.{_+_, _/_, _≤_}
-use mathlib.Core.Path.{_≡_, sym, subst, ap, _∙_}
+use Prim.Native.Nat.{_<_, _≤_}
 use native.Mathlib.Omega.{arith}
-use Rattle.records.specs.Layout.{count, recordsFor, reached}
+use Rattle.records.specs.Layout.{count}
 use Rattle.records.proofs.Operations.{code-past, code-there, index-past, index-there}
 use Rattle.records.proofs.record_memory.RecordMemory.find.Needs as need
 
 pub returns-then-place-count : need.returns-then-place-count
 returns-then-place-count c =
     let self = c .args .self .now in
-    let past = c .if-place-count .taken in
+    let is = c .count-in-count .ensures in
+    let past : count (self .bytes) ≤ c .args .place = omega arith in
     record {
       answer = code-past (self .bytes) (c .args .place) past;
       index = index-past (self .bytes) (self .cursor .index) (c .args .place) past;
@@ -19,7 +19,8 @@ returns-then-place-count c =
 pub returns : need.returns
 returns c =
     let self = c .args .self .now in
-    let there = c .if-place-count .left in
+    let is = c .count-in-count .ensures in
+    let there : c .args .place < count (self .bytes) = omega arith in
     record {
       answer = code-there (self .bytes) (c .args .place) (c .walk-record .result) _ there (c .walk-record .ensures .is) (c .read-word-word .ensures);
       index = index-there (self .bytes) (self .cursor .index) (c .args .place) there;
