@@ -1,11 +1,26 @@
 //! Reads and writes of the records, on bytes alone.
 
 use bytecode::Word;
-ghost use Prim.Native.Nat.{_+_, _*_, _^_, _<_};
+ghost use Prim.Native.Nat.{_+_, _*_, _/_, _^_, _<_};
 ghost use mathlib.Core.Path.{_≡_};
 ghost use lib.ListN.{length, set};
-ghost use Rattle.records.specs.Layout.{firstFree, count, wordAt};
+ghost use Rattle.records.specs.Layout.{next, firstFree, count, wordAt};
 ghost use Rattle.records.specs.Writes.{put, recounted, taken, added, lastAfter, joined, emptied};
+
+// The record that record r names as its next.
+pub(crate) fn next_of(bytes: &[u8], r: usize) -> usize
+    requires { ⌜ length (now bytes) ≡ 1024 ⌝ ∗ ⌜ r < 64 ⌝ }
+    ensures { λ n. ⌜ n ≡ next (now (bytes .entry)) r ⌝ }
+{
+    bytes[16 * r] as usize
+}
+
+// How many links lead from record 0 to the record that holds a place.
+pub(crate) fn index_of(place: usize) -> usize
+    ensures { λ r. ⌜ r ≡ place / 5 + 1 ⌝ }
+{
+    place / 5 + 1
+}
 
 // The word that begins at a byte.
 pub(crate) fn read_word(bytes: &[u8], at: usize) -> Word

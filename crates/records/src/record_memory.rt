@@ -2,6 +2,8 @@
 
 use crate::append::append_word;
 use crate::bytes::count_in;
+use crate::bytes::index_of;
+use crate::bytes::next_of;
 use crate::bytes::read_word;
 use crate::clear::clear_words;
 use crate::cursor::Cursor;
@@ -72,7 +74,7 @@ impl RecordMemory {
     {
         let mut r = from.record;
         for _i in from.index..index {
-            r = self.bytes[16 * r] as usize;
+            r = next_of(&self.bytes, r);
         }
         r
     }
@@ -88,7 +90,7 @@ impl RecordMemory {
         if place >= count {
             return (None, self.cursor);
         }
-        let index = place / 5 + 1;
+        let index = index_of(place);
         let from = if self.cursor.index <= index {
             self.cursor
         } else {
