@@ -2,13 +2,13 @@
 use Prim.Native.Nat.{ℕ, _+_, _<_, _≤_}
 use mathlib.Core.Bool.{Bool, true, false, cond}
 use mathlib.Core.List.{List, [], _∷_, _++_}
-use mathlib.Core.Logic.{_≢_, inl, inr}
+use mathlib.Core.Logic.{inl, inr}
 use mathlib.Core.Path.{_≡_, refl, sym, ap, _∙_}
 use native.Mathlib.Omega.{arith}
 use borrow.Author.Count.{below-more}
 use lib.Dec.{ltb}
-use lib.ListN.{length, getD, set, take, length-set, length-append}
-use Rattle.std.proofs.shelf.Lists.{getD-set-same, getD-set-other, length-take-le, take-all, take-append-le}
+use lib.ListN.{length, getD, set, take, drop, length-set, length-append}
+use Rattle.std.proofs.shelf.Lists.{getD-set-same, getD-set-other, drop-set-lt, length-take-le, take-all, take-append-le}
 use Rattle.std.proofs.shelf.Sums.{folded-more}
 use Rattle.std.proofs.shelf.Tests.{cases-lt, cond-true, cond-false, lt-ltb, le-ltb}
 use Rattle.bytecode.specs.declared.instruction.Word.{Word}
@@ -55,13 +55,31 @@ module _ (room : ℕ) (operations : List Operation) (i : ℕ) (within : i < leng
       let so-far = ledger (take i operations) in
       e ∙ (ap (λ n. done n before operation) same ∙ (ap (λ xs. done room xs operation) lists ∙ (done-alike room so-far operation ∙ ap (done room so-far) is)))
 
-  pub told-written :
-      (answers : List Bool) (answer : Bool) → answer ≡ done room′ before operation →
-      ToldBelow room operations answers i → ToldBelow room operations (set answers i answer) (i + 1)
-  told-written answers answer e below =
-      below-more (λ k. k < length (set answers i answer) → getD (set answers i answer) k false ≡ done room (ledger (take k operations)) (getD operations k Clear)) i
-      (λ k lt fits. let ne : k ≢ i = omega arith in rw getD-set-other (below k lt (rw length-set at fits)))
-      (λ fits. let l : i < length answers = rw length-set at fits in rw getD-set-same (told-here answer e))
+  pub told-more :
+      (answers after : List Bool) (answer : Bool) →
+      answer ≡ done room′ before operation →
+      after ≡ set answers i answer → ToldBelow room operations answers i → ToldBelow room operations after (i + 1)
+  told-more answers after answer e put below =
+      below-more (λ k. k < length after → getD after k false ≡ done room (ledger (take k operations)) (getD operations k Clear)) i
+      (λ k lt fits.
+      let l : k < length answers = omega (arith, ap length put, length-set answers i answer) in
+      ap (λ ys. getD ys k false) put ∙ (getD-set-other answers i k answer false (λ z. omega arith) ∙ below k lt l))
+      (λ fits.
+      let l : i < length answers = omega (arith, ap length put, length-set answers i answer) in
+      ap (λ ys. getD ys i false) put ∙ (getD-set-same answers i answer false l ∙ told-here answer e))
+
+-- the answers past the operations
+pub rest-more :
+    (answers after first : List Bool) (n i : ℕ) (answer : Bool) →
+    i < n → after ≡ set answers i answer → drop n answers ≡ drop n first → drop n after ≡ drop n first
+rest-more answers after first n i answer l put same = ap (drop n) put ∙ (drop-set-lt n answers i answer l ∙ same)
+
+-- the operations are all performed
+pub all-performed :
+    (room room′ : ℕ) (operations : List Operation) (i : ℕ) (listed : List Word) →
+    listed ≡ take room′ (ledger (take i operations)) → room′ ≡ room → length operations ≤ i → listed ≡ take room (ledger operations)
+all-performed room room′ operations i listed e same l =
+    e ∙ (ap (λ n. take n (ledger (take i operations))) same ∙ ap (λ os. take room (ledger os)) (take-all i operations l))
 
 -- one more operation, in bytes
 pub more-written :

@@ -1,12 +1,11 @@
-use Prim.Native.Nat.{_+_}
 use native.Mathlib.Omega.{arith}
 use mathlib.Core.List.{[]}
-use mathlib.Core.Path.{_≡_, refl, sym, subst, ap, _∙_}
-use lib.ListN.{length, take, drop}
-use Rattle.std.proofs.shelf.Lists.{getD-default, take-all, drop-set-lt}
+use mathlib.Core.Path.{refl, sym, subst, _∙_}
+use lib.ListN.{length}
+use Rattle.std.proofs.shelf.Lists.{getD-default, take-all}
 use Rattle.storage.specs.declared.Operation.the-variants.{Clear}
-use Rattle.storage.specs.Ledger.{ledger, ToldBelow, Told}
-use Rattle.storage.proofs.Ledgers.{one-more, told-written}
+use Rattle.storage.specs.Ledger.{Told}
+use Rattle.storage.proofs.Ledgers.{one-more, told-more, rest-more, all-performed}
 use Rattle.storage.proofs.operate.Needs as need
 
 pub loop-i-holds : need.loop-i-holds
@@ -25,8 +24,8 @@ loop-i-again g c =
     let put = c .write-answer .ensures in (
       did .same ∙ inv .0,
       one-more room operations i lt _ is _ _ (inv .0) (inv .1) _ (did .after),
-      subst (λ ys. ToldBelow room operations ys (i + 1)) (sym put) (told-written room operations i lt _ is _ _ (inv .0) (inv .1) (c .loop-i .answers) (c .perform-answer .result) (did .answer) (inv .2)),
-      ap (drop (length operations)) put ∙ (drop-set-lt (length operations) (c .loop-i .answers) i (c .perform-answer .result) lt ∙ inv .3),
+      told-more room operations i lt _ is _ _ (inv .0) (inv .1) (c .loop-i .answers) _ _ (did .answer) put (inv .2),
+      rest-more (c .loop-i .answers) _ _ (length operations) i _ lt put (inv .3),
     )
 
 pub returns : need.returns
@@ -36,7 +35,7 @@ returns g c =
     let same = c .clear .ensures .same in
     record {
       same = inv .0 ∙ same;
-      after = inv .1 ∙ (ap (λ n. take n (ledger (take (c .loop-i .i) operations))) same ∙ ap (λ os. take (g .M·CodeMemory .room (c .args .memory .now)) (ledger os)) (take-all (c .loop-i .i) operations (c .loop-i-test .left)));
+      after = all-performed _ _ operations (c .loop-i .i) _ (inv .1) same (c .loop-i-test .left);
       told = subst (λ n. Told n operations (c .loop-i .answers)) same (λ i h l. inv .2 i (omega arith) l);
       rest = inv .3;
     }
