@@ -1,15 +1,15 @@
 -- A new memory.
 use Prim.Native.Nat.{ℕ, _+_, _*_, _/_, _%_, _<_, _≤_}
-use mathlib.Core.Bool.{true, false, cond, _&&_}
+use mathlib.Core.Bool.{cond, _&&_}
 use mathlib.Core.List.{List}
-use mathlib.Core.Logic.{_≢_, inl, inr}
+use mathlib.Core.Logic.{inl, inr}
 use mathlib.Core.Path.{_≡_, refl, sym, ap, subst, _∙_}
 use native.Mathlib.Omega.{arith}
 use lib.Dec.{eqb, ltb}
 use lib.ListN.{length, getD, set, replicate}
 use Rattle.std.proofs.shelf.Lists.{getD-set-same, getD-set-other, getD-replicate, getD-past, length-replicate}
 use Rattle.std.proofs.shelf.Tests.{cases-eq, cases-lt, cond-true, cond-false, eq-eqb, ne-eqb, lt-ltb, le-ltb, and-from, and-right}
-use Rattle.records.specs.Layout.{next, count, recordsFor, code, Linked, Formed, blank}
+use Rattle.records.specs.Layout.{next, count, recordsFor, Linked, Formed, blank}
 use Rattle.records.specs.Steps.{Blank}
 use Rattle.records.proofs.Operations.{no-code, stands-empty}
 
@@ -51,6 +51,11 @@ blank-more bytes r some l h k =
           getD-set-other bytes (16 * r) k (r + 1) 0 u ∙ (h k ∙ blank-alike r (r + 1) k (λ e. elim (cases-lt k (16 * r)) [ inl p ↦ lt-ltb k (16 * r) p ∙ sym (lt-ltb k (16 * (r + 1)) (omega arith)) | inr p ↦ le-ltb k (16 * r) p ∙ sym (le-ltb k (16 * (r + 1)) (omega arith)) ]))
     ]
 
+blank-rest : (i k : ℕ) → 4 ≤ k → k < 16 → blank i k ≡ 0
+blank-rest i k p q =
+    let z = ne-eqb (k % 16) 0 (λ e. omega arith) in
+    ap (λ t. cond (eqb k 1) 1 (cond (t && (ltb 0 k && ltb k (16 * i))) (k / 16 + 1) 0)) z ∙ cond-false (eqb k 1) 1 0 (ne-eqb k 1 (λ e. omega arith))
+
 -- the records are listed by their numbers
 blank-linked : (bytes : List ℕ) → length bytes ≡ 1024 → ((k : ℕ) → getD bytes k 0 ≡ blank 63 k) → Linked bytes 0 (λ i. cond (ltb i 64) i 0) (λ r. r)
 blank-linked bytes size h =
@@ -58,6 +63,7 @@ blank-linked bytes size h =
     let is : (i : ℕ) → i < 64 → order i ≡ i = λ i l. cond-true _ _ _ (lt-ltb i 64 l) in
     record {
       size = size;
+      rest = λ k p q. h k ∙ blank-rest 63 k p q;
       border = omega arith;
       head = refl;
       tail = refl;

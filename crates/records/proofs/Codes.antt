@@ -9,11 +9,11 @@ use lib.ListN.{length, getD, set, length-set}
 use Rattle.std.specs.Iters.{counting}
 use Rattle.std.proofs.shelf.Counted.{map-counting-more}
 use Rattle.std.proofs.shelf.Lists.{getD-set-same, getD-set-other}
-use Rattle.std.proofs.shelf.Tests.{cases-eq, cases-lt}
+use Rattle.std.proofs.shelf.Tests.{cases-eq}
 use Rattle.bytecode.specs.declared.instruction.Word.{Word}
-use Rattle.records.specs.Layout.{next, count, reached, spot, wordAt, codeAt, code, Linked}
+use Rattle.records.specs.Layout.{count, reached, spot, wordAt, codeAt, code, Linked}
 use Rattle.records.specs.Writes.{put, recounted, filled}
-use Rattle.records.proofs.Links.{differ, not-head, reached-order, same-links, beside}
+use Rattle.records.proofs.Links.{differ, not-head, reached-order, same-links, beside, inside}
 
 same-word : (x y : Word) → x .opcode ≡ y .opcode → x .sign ≡ y .sign → x .value ≡ y .value → x ≡ y
 same-word x y p q r = λ i. record { opcode = p i; sign = q i; value = r i }
@@ -56,10 +56,6 @@ put-back bytes at w l =
     let b : getD (put bytes at w) (at + 1) 0 ≡ w .sign = getD-set-other two (at + 2) (at + 1) (w .value) 0 (λ e. omega arith) ∙ getD-set-same one (at + 1) (w .sign) 0 (omega arith) in
     let c : getD (put bytes at w) (at + 2) 0 ≡ w .value = getD-set-same two (at + 2) (w .value) 0 (omega arith) in
     same-word _ _ a b c
-
--- a byte behind the first of a record is the first of none
-pub inside : (r o j : ℕ) → 16 * o < j → j < 16 * o + 16 → 16 * r ≢ j
-inside r o j p q e = elim (cases-lt o r) [ inl l ↦ omega arith | inr l ↦ omega arith ]
 
 -- the count's two bytes
 pub count-beside : (bytes : List ℕ) (n j : ℕ) → j ≢ 2 → j ≢ 3 → getD (recounted bytes n) j 0 ≡ getD bytes j 0
@@ -113,6 +109,7 @@ module _ {bytes : List ℕ} {n : ℕ} {order place : ℕ → ℕ} (h : Linked by
       let last = order n in
       let ne = not-head h n some (h .border) in
       same-links h (filled bytes last k w (c + 1)) (simp length-set size)
+      (λ j p q. fill-beside bytes last k w (c + 1) j (λ a b. omega arith) (λ e. omega arith) (λ e. omega arith))
       (λ r l. fill-beside bytes last k w (c + 1) (16 * r) (λ a b. inside r last (16 * r) (omega arith) (omega arith) refl) (λ e. omega arith) (λ e. omega arith))
       (fill-beside bytes last k w (c + 1) 1 (λ a b. omega arith) (λ e. omega arith) (λ e. omega arith))
 

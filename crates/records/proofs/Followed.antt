@@ -1,6 +1,6 @@
 -- The chains that a reader follows are the two parts of the list of records.
-use Prim.Native.Nat.{ℕ, zero, suc, _+_, _-_, _*_, _<_, _≤_}
-use mathlib.Core.Bool.{true, false, cond}
+use Prim.Native.Nat.{ℕ, zero, suc, _+_, _-_, _<_, _≤_}
+use mathlib.Core.Bool.{cond}
 use mathlib.Core.List.{List, [], _∷_, _++_, map, List·isSet}
 use mathlib.Core.Logic.{_≢_, inl, inr, ∥∥₁-elim}
 use mathlib.Core.Path.{_≡_, refl, sym, ap, _∙_}
@@ -12,9 +12,8 @@ use Rattle.std.specs.Iters.{counting}
 use Rattle.std.proofs.shelf.Counted.{length-map-counting}
 use Rattle.std.proofs.shelf.Lists.{map-append}
 use Rattle.std.proofs.shelf.Tests.{cases-eq, cases-lt, cond-true, cond-false, eq-eqb, ne-eqb, le-ltb}
-use Rattle.bytecode.specs.declared.instruction.Word.{Word}
-use Rattle.records.specs.Layout.{next, firstFree, count, recordsFor, Linked, Formed}
-use Rattle.records.specs.Writes.{appendedIn, clearedIn}
+use Rattle.records.specs.Layout.{next, count, Linked, Formed}
+use Rattle.records.specs.Writes.{clearedIn}
 use Rattle.records.specs.Chains.{chain, ruleChain, freeChain, timesIn, Sound, AppendMoves, ClearMoves}
 use Rattle.records.proofs.Links.{not-head}
 use Rattle.records.proofs.Operations.{append-linked, clear-linked}
@@ -115,6 +114,7 @@ sound bytes f =
       once = λ r p l. ∥∥₁-elim f (ℕ-set _ _) (λ w. once-in-chains (w .1 .1) r p l);
       rule = ∥∥₁-elim f (ℕ-set _ _) (λ w. rule-length (w .1 .1));
       free = ∥∥₁-elim f (ℕ-set _ _) (λ w. free-length (w .1 .1));
+      rest = λ k p q. ∥∥₁-elim f (ℕ-set _ _) (λ w. w .1 .1 .rest k p q);
     }
 
 chains-set : (xs ys : List ℕ) (p q : xs ≡ ys) → p ≡ q

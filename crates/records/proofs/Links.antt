@@ -7,7 +7,7 @@ use native.Mathlib.Numerals.{add-one}
 use native.Mathlib.Omega.{arith}
 use lib.ListN.{length, getD, set, length-set}
 use Rattle.std.proofs.shelf.Lists.{getD-set-same, getD-set-other}
-use Rattle.std.proofs.shelf.Tests.{cases-eq}
+use Rattle.std.proofs.shelf.Tests.{cases-eq, cases-lt}
 use Rattle.records.specs.Layout.{next, firstFree, reached, Linked}
 use Rattle.records.specs.Writes.{taken, joined}
 
@@ -31,10 +31,12 @@ module _ {bytes : List ℕ} {n : ℕ} {order place : ℕ → ℕ} (h : Linked by
   pub same-links :
       (after : List ℕ) →
       length after ≡ 1024 →
+      ((k : ℕ) → 4 ≤ k → k < 16 → getD after k 0 ≡ getD bytes k 0) →
       ((r : ℕ) → r < 64 → next after r ≡ next bytes r) → firstFree after ≡ firstFree bytes → Linked after n order place
-  same-links after size same free =
+  same-links after size rest same free =
       record {
         size = size;
+        rest = λ k p q. rest k p q ∙ h .rest k p q;
         border = h .border;
         head = h .head;
         tail = h .tail;
@@ -53,6 +55,10 @@ pub beside :
 beside bytes a x b y c z j p q r =
     getD-set-other (set (set bytes a x) b y) c j z 0 r ∙ (getD-set-other (set bytes a x) b j y 0 q ∙ getD-set-other bytes a j x 0 p)
 
+-- a byte behind the first of a record is the first of none
+pub inside : (r o j : ℕ) → 16 * o < j → j < 16 * o + 16 → j ≢ 16 * r
+inside r o j p q e = elim (cases-lt o r) [ inl l ↦ omega arith | inr l ↦ omega arith ]
+
 -- Taking the first free record moves the border one record on.
 pub takes :
     {bytes : List ℕ} {n : ℕ} {order place : ℕ → ℕ} (h : Linked bytes n order place) →
@@ -70,6 +76,8 @@ takes {bytes} {n} {order} {place} h l =
     let size-two : length two ≡ 1024 = simp length-set size in
     record {
       size = simp length-set size;
+      rest = λ k p q.
+          beside bytes 1 (next bytes fresh) (16 * last) fresh (16 * fresh) 0 k (λ e. omega arith) (inside last 0 k (omega arith) (omega arith)) (inside fresh 0 k (omega arith) (omega arith)) ∙ h .rest k p q;
       border = omega arith;
       head = h .head;
       tail = h .tail;
@@ -107,6 +115,8 @@ joins {bytes} {n} {order} {place} h l =
     let size-two : length two ≡ 1024 = simp length-set size in
     record {
       size = simp length-set size;
+      rest = λ k p q.
+          beside bytes (16 * last) (firstFree bytes) 1 (next bytes 0) 0 0 k (inside last 0 k (omega arith) (omega arith)) (λ e. omega arith) (λ e. omega arith) ∙ h .rest k p q;
       border = omega arith;
       head = h .head;
       tail = h .tail;

@@ -1,15 +1,15 @@
 -- Appending, clearing and reading, on the bytes of a memory.
-use Prim.Native.Nat.{ℕ, zero, suc, _+_, _*_, _/_, _%_, _<_, _≤_}
-use mathlib.Core.Bool.{true, false, cond}
+use Prim.Native.Nat.{ℕ, _+_, _*_, _/_, _%_, _<_, _≤_}
+use mathlib.Core.Bool.{true}
 use mathlib.Core.List.{List, [], _∷_, _++_, map}
-use mathlib.Core.Logic.{_≢_, inl, inr, ∥∥₁-elim, ∥∥₁-map}
+use mathlib.Core.Logic.{inl, inr, ∥∥₁-elim, ∥∥₁-map}
 use mathlib.Core.Path.{_≡_, refl, sym, ap, subst, _∙_}
 use native.Mathlib.Bridge.{le-prop}
 use native.Mathlib.Nat.{ℕ-set}
 use native.Mathlib.Numerals.{add-one}
 use native.Mathlib.Omega.{arith}
 use lib.Dec.{eqb, ltb}
-use lib.ListN.{length, getD, set, length-set}
+use lib.ListN.{length, length-set}
 use Rattle.std.specs.Finite.{nth}
 use Rattle.std.specs.Iters.{counting}
 use Rattle.std.specs.declared.option.Option.the-variants.{Some, None}
@@ -20,12 +20,11 @@ use Rattle.std.proofs.shelf.Tests.{cases-eq, cond-true, cond-false, eq-eqb, ne-
 use Rattle.bytecode.specs.declared.instruction.Word.{Word}
 use Rattle.bytecode.specs.Words.{word}
 use Rattle.refusal.specs.declared.Refusal.the-variants.{MemoryFull}
-use Rattle.memory.specs.Lists.{answered, appended}
 use Rattle.records.specs.Layout.{next, firstFree, count, recordsFor, reached, spot, wordAt, codeAt, code, Linked, Formed}
-use Rattle.records.specs.Writes.{put, recounted, filled, taken, added, lastAfter, appendedIn, joined, emptied, clearedIn}
+use Rattle.records.specs.Writes.{recounted, filled, taken, added, lastAfter, appendedIn, joined, emptied, clearedIn}
 use Rattle.records.specs.Steps.{Stands, Stays, Appends, Clears, indexAfter}
-use Rattle.records.proofs.Links.{differ, not-head, reached-order, same-links, beside, takes, joins}
-use Rattle.records.proofs.Codes.{words-set, alike, inside, count-beside, count-back, fill-count, same-codeAt, fills, fill-code}
+use Rattle.records.proofs.Links.{reached-order, same-links, beside, inside, takes, joins}
+use Rattle.records.proofs.Codes.{words-set, alike, count-beside, count-back, fill-count, same-codeAt, fills, fill-code}
 
 -- Reading.
 
@@ -124,7 +123,7 @@ grows-full bytes f w none less =
     (λ r t is some p q.
     let lo : 16 * r < t = omega arith in
     let hi : t < 16 * r + 16 = omega arith in
-    beside bytes 1 _ (16 * order n) _ (16 * order (n + 1)) 0 t (λ z. omega arith) (λ z. inside (order n) r t lo hi (sym z)) (λ z. inside (order (n + 1)) r t lo hi (sym z))) in
+    beside bytes 1 _ (16 * order n) _ (16 * order (n + 1)) 0 t (λ z. omega arith) (inside (order n) r t lo hi) (inside (order (n + 1)) r t lo hi)) in
     record {
       more = fill-count base (order (n + 1)) 0 w (c + 1) (g .size);
       linked = subst (λ k. Linked after k order (f .1 .0)) (sym one-more) (fills g c 0 (omega arith) (omega arith) (omega arith) w);
@@ -250,7 +249,7 @@ empties bytes f last e =
           let a : emptied bytes last ≡ recounted base 0 = cond-false _ _ _ (ne-eqb c 0 u) ∙ ap (λ r. recounted (joined bytes r) 0) is in
           let g = joins h (omega arith) in
           let size = h .size in
-          let k : Linked (recounted base 0) 0 order (f .1 .0) = same-links g (recounted base 0) (simp length-set size) (λ r l. count-beside base 0 (16 * r) (λ z. omega arith) (λ z. omega arith)) (count-beside base 0 1 (λ z. omega arith) (λ z. omega arith)) in
+          let k : Linked (recounted base 0) 0 order (f .1 .0) = same-links g (recounted base 0) (simp length-set size) (λ j p q. count-beside base 0 j (λ z. omega arith) (λ z. omega arith)) (λ r l. count-beside base 0 (16 * r) (λ z. omega arith) (λ z. omega arith)) (count-beside base 0 1 (λ z. omega arith) (λ z. omega arith)) in
           subst (λ bs. Empties bytes f bs) (sym a) (record { none = count-back base 0 (g .size); linked = k })
     ]
 

@@ -1,10 +1,10 @@
 -- The two chains as a reader of the bytes finds them, record by record until a next is 0.
-use Prim.Native.Nat.{ℕ, zero, suc, _+_, _-_, _<_}
+use Prim.Native.Nat.{ℕ, zero, suc, _+_, _-_, _<_, _≤_}
 use mathlib.Core.Bool.{cond}
 use mathlib.Core.List.{List, [], _∷_, _++_}
 use mathlib.Core.Path.{_≡_}
 use lib.Dec.{eqb}
-use lib.ListN.{length}
+use lib.ListN.{length, getD}
 use Rattle.bytecode.specs.declared.instruction.Word.{Word}
 use Rattle.records.specs.Layout.{next, firstFree, count, recordsFor, Formed}
 use Rattle.records.specs.Writes.{appendedIn, clearedIn}
@@ -26,11 +26,12 @@ timesIn r [] = 0
 timesIn r (x ∷ xs) = cond (eqb x r) 1 0 + timesIn r xs
 
 -- Each record but 0 is in exactly one of the chains, once. The rule's chain is as long as its words need, and both
--- together have 63 records, so nothing else is in them and neither has a cycle.
+-- together have 63 records, so nothing else is in them and neither has a cycle. The rest of record 0 is 0.
 pub record Sound (bytes : List ℕ) : Type 0 where
   pub once : (r : ℕ) → 0 < r → r < 64 → timesIn r (ruleChain bytes ++ freeChain bytes) ≡ 1
   pub rule : length (ruleChain bytes) ≡ recordsFor (count bytes)
   pub free : length (freeChain bytes) ≡ 63 - recordsFor (count bytes)
+  pub rest : (k : ℕ) → 4 ≤ k → k < 16 → getD bytes k 0 ≡ 0
 
 -- An append moves at most the border: the rule's chain followed by the free chain stays one and the same list.
 abbrev pub AppendMoves : Type 0

@@ -1,7 +1,7 @@
 -- A memory of 1024 bytes is 64 records of 16 bytes. Of record 0, byte 0 is the rule's first record, byte 1 the first
--- free record, and bytes 2 and 3 are the number of words, high byte first. Of any other record, byte 0 is the next
+-- free record, bytes 2 and 3 are the number of words, high byte first, and the rest is 0. Of any other record, byte 0 is the next
 -- record of its chain, 0 at the chain's end, and bytes 1 to 15 are five words.
-use Prim.Native.Nat.{ℕ, zero, suc, _+_, _*_, _/_, _%_, _<_}
+use Prim.Native.Nat.{ℕ, zero, suc, _+_, _*_, _/_, _%_, _<_, _≤_}
 use mathlib.Core.Bool.{cond, _&&_}
 use mathlib.Core.List.{List, map}
 use mathlib.Core.Path.{_≡_}
@@ -47,9 +47,10 @@ code bytes = map (codeAt bytes) (counting 0 (count bytes))
 
 -- One list of all records, `order`, begins with record 0, goes on with the n records of the rule, and ends with the
 -- free ones; `place` finds a record in it, so each is there exactly once. Every record names the one behind it as its
--- next, but for the rule's last, which names 0, as the last of all does.
+-- next, but for the rule's last, which names 0, as the last of all does. The rest of record 0 is 0.
 pub record Linked (bytes : List ℕ) (n : ℕ) (order place : ℕ → ℕ) : Type 0 where
   pub size : length bytes ≡ 1024
+  pub rest : (k : ℕ) → 4 ≤ k → k < 16 → getD bytes k 0 ≡ 0
   pub border : n < 64
   pub head : order 0 ≡ 0
   pub tail : order 64 ≡ 0

@@ -1,5 +1,5 @@
 -- What each step on the bytes comes to, for the memory that has them.
-use Prim.Native.Nat.{ℕ, _<_, _≤_, _+_, _/_}
+use Prim.Native.Nat.{ℕ, _≤_, _+_, _/_}
 use mathlib.Core.Bool.{cond}
 use mathlib.Core.List.{List, []}
 use mathlib.Core.Path.{_≡_}

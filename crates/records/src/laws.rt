@@ -1,7 +1,6 @@
 //! What the chains come to, for a reader of the bytes.
 
 use crate::record_memory::RecordMemory;
-ghost use mathlib.Core.Path.{_≡_};
 ghost use Rattle.records.specs.Chains.{Sound, AppendMoves, ClearMoves};
 
 impl RecordMemory {

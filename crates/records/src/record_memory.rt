@@ -11,7 +11,7 @@ use crate::start::blank_bytes;
 use bytecode::Word;
 use memory::CodeMemory;
 ghost use Prim.Native.Nat.{ℕ, _<_, _≤_};
-ghost use mathlib.Core.List.{List, []};
+ghost use mathlib.Core.List.{[]};
 ghost use mathlib.Core.Path.{_≡_};
 ghost use lib.ListN.{length, getD};
 ghost use Rattle.std.specs.Finite.{nth};
