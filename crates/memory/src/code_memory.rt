@@ -31,6 +31,15 @@ pub trait CodeMemory {
     fn at(&self, place: usize) -> Option<Word>
         ensures { λ r. ⌜ r ≡ nth (listed (now (self .entry))) place ⌝ };
 
+    /// Answers as `at` does. A memory may remember the place, so that reading forward needs no search from the start.
+    fn fetch(&mut self, place: usize) -> Option<Word>
+        ensures answer { λ r. ⌜ r ≡ nth (listed (now (self .entry))) place ⌝ }
+        ensures same { λ _. ⌜ room (now (self .exit)) ≡ room (now (self .entry)) ⌝ }
+        ensures after { λ _. ⌜ listed (now (self .exit)) ≡ listed (now (self .entry)) ⌝ }
+    {
+        self.at(place)
+    }
+
     /// Adds a word at the end. It refuses, and changes nothing, exactly when the memory is full.
     fn append(&mut self, word: Word) -> Result<(), Refusal>
         ensures same { λ _. ⌜ room (now (self .exit)) ≡ room (now (self .entry)) ⌝ }

@@ -1,0 +1,5 @@
+mod Links
+mod Codes
+mod Operations
+mod Blanks
+mod Followed

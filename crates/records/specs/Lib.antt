@@ -1,0 +1,4 @@
+pub mod Layout
+pub mod Writes
+pub mod Chains
+pub mod Steps
