@@ -1,6 +1,3 @@
-pub mod Runs
-pub mod Numerals
-pub mod Lexes
 pub mod Scopes
 pub mod Stacks
 pub mod Steps

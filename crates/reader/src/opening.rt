@@ -23,7 +23,7 @@ ghost use Rattle.std.specs.declared.result.Result.the-variants.{Ok};
 ghost use Rattle.language.specs.Fold.{fresh, leaf, opened, enter, enterWhole, openingOf, begun};
 ghost use Rattle.language.specs.Frames.{isBody, frame};
 ghost use Rattle.reader.specs.Lets.{isValue, dueFits, Opens};
-ghost use Rattle.reader.specs.Lexing.{plain};
+ghost use Rattle.lexer.specs.Lexing.{plain};
 ghost use Rattle.reader.specs.Opened.{framesOf};
 ghost use Rattle.reader.specs.Stacks.{opens};
 ghost use Rattle.reader.specs.Steps.{view, Moved, Stepped};

@@ -1,11 +1,11 @@
 //! Reading a whole text.
 
 use crate::kinds::is_last;
-use crate::lexer::Lexer;
 use crate::parser::Parser;
 use bytecode::Argument;
 use language::Entry;
 use language::Kind;
+use lexer::Lexer;
 use refusal::Refusal;
 ghost use Prim.Native.Nat.{_+_, _^_, _<_, _≤_};
 ghost use mathlib.Core.Path.{_≡_};

@@ -1,7 +1,7 @@
 //! The names of lets, and the search for a name.
 
-use crate::bytes::same;
 use crate::names::Names;
+use lexer::same;
 ghost use Prim.Native.Nat.{ℕ, _+_, _-_, _<_};
 ghost use mathlib.Core.List.{_∷_, _++_};
 ghost use mathlib.Core.Path.{_≡_};

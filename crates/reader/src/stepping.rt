@@ -12,7 +12,7 @@ use refusal::Refusal;
 ghost use Prim.Native.Nat.{_+_, _^_, _<_, _≤_};
 ghost use mathlib.Core.Path.{_≡_};
 ghost use Rattle.language.specs.Fold.{bound, equated, feed};
-ghost use Rattle.reader.specs.Lexing.{plain};
+ghost use Rattle.lexer.specs.Lexing.{plain};
 ghost use Rattle.reader.specs.Steps.{view, Moved, Stepped};
 
 impl<'a> Parser<'a> {

@@ -8,7 +8,7 @@ use Rattle.std.specs.declared.result.Result.the-variants.{Ok, Err}
 use Rattle.language.specs.Fold.{State, feeds}
 use Rattle.language.specs.Reading.{tokens, tokensFrom, isLast}
 use Rattle.language.specs.Tokens.{lexeme, after}
-use Rattle.reader.specs.Lexing.{plain}
+use Rattle.lexer.specs.Lexing.{plain}
 use Rattle.reader.specs.Outcomes.{paired, laid}
 use Rattle.reader.specs.Steps.{view}
 use Rattle.reader.proofs.Whole.{token-moves, turn-err, turn-last, turn-on}

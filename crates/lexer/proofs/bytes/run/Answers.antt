@@ -1,9 +1,9 @@
 use mathlib.Core.Path.{sym, _∙_}
 use native.Mathlib.Omega.{arith}
 use borrow.Author.Needs.{needs}
-use Rattle.reader.specs.Classes.{belongs}
-use Rattle.reader.proofs.Runs.{run-on, run-stops, run-ends}
-use Rattle.reader.proofs.bytes.run.Needs as need
+use Rattle.lexer.specs.Classes.{belongs}
+use Rattle.lexer.proofs.Runs.{run-on, run-stops, run-ends}
+use Rattle.lexer.proofs.bytes.run.Needs as need
 
 pub returns-then-not-is-in : need.returns-then-not-is-in
 returns-then-not-is-in c =

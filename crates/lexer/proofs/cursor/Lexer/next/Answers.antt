@@ -1,6 +1,6 @@
 use mathlib.Core.Path.{refl}
-use Rattle.reader.proofs.Lexes.{next-token, next-place}
-use Rattle.reader.proofs.lexer.Lexer.next.Needs as need
+use Rattle.lexer.proofs.Lexes.{next-token, next-place}
+use Rattle.lexer.proofs.cursor.Lexer.next.Needs as need
 
 pub returns : need.returns
 returns c =

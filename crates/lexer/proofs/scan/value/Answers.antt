@@ -1,8 +1,8 @@
 use mathlib.Core.Path.{sym, _∙_}
 use native.Mathlib.Omega.{arith}
 use borrow.Author.Needs.{needs}
-use Rattle.reader.proofs.Numerals.{value-on, value-done}
-use Rattle.reader.proofs.scan.value.Needs as need
+use Rattle.lexer.proofs.Numerals.{value-on, value-done}
+use Rattle.lexer.proofs.scan.value.Needs as need
 
 pub loop-digit-again : need.loop-digit-again
 loop-digit-again c =

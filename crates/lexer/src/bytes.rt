@@ -5,7 +5,7 @@ ghost use mathlib.Core.Path.{_≡_};
 ghost use lib.ListN.{length, getD};
 ghost use Rattle.language.specs.Tokens.{isBlank, isDigit, isSmall, isWord, runOf};
 ghost use Rattle.std.specs.shelf.Text.{sameBytes};
-ghost use Rattle.reader.specs.Classes.{belongs};
+ghost use Rattle.lexer.specs.Classes.{belongs};
 
 /// A class of bytes of which runs are taken whole.
 #[derive(Clone, Copy)]
@@ -74,7 +74,7 @@ pub(crate) fn run(class: Class, bytes: &[u8]) -> usize
 }
 
 /// Whether two texts are the same.
-pub(crate) fn same(one: &[u8], other: &[u8]) -> bool
+pub fn same(one: &[u8], other: &[u8]) -> bool
     ensures { λ r. ⌜ r ≡ sameBytes (now (one .entry)) (now (other .entry)) ⌝ }
 {
     one == other

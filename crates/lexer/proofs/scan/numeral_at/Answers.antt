@@ -1,5 +1,5 @@
-use Rattle.reader.proofs.Numerals.{numeral-at}
-use Rattle.reader.proofs.scan.numeral_at.Needs as need
+use Rattle.lexer.proofs.Numerals.{numeral-at}
+use Rattle.lexer.proofs.scan.numeral_at.Needs as need
 
 pub returns : need.returns
 returns c =

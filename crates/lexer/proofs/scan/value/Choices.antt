@@ -2,7 +2,7 @@ use Prim.Native.Nat.{_≤_, min}
 use mathlib.Core.Path.{_≡_}
 use lib.ListN.{drop}
 use Rattle.language.specs.Tokens.{valueFrom}
-use Rattle.reader.proofs.scan.value.Given as given
+use Rattle.lexer.proofs.scan.value.Given as given
 
 -- what is left, behind the number so far, makes what the whole makes
 abbrev pub Inv-loop-digit : given.InvT-loop-digit

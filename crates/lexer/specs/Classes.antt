@@ -2,8 +2,8 @@
 use Prim.Native.Nat.{ℕ}
 use mathlib.Core.Bool.{Bool}
 use Rattle.language.specs.Tokens.{isBlank, isDigit, isWord}
-use Rattle.reader.specs.declared.bytes.Class.{Class}
-use Rattle.reader.specs.declared.bytes.Class.the-variants.{Blank, Digit, Word}
+use Rattle.lexer.specs.declared.bytes.Class.{Class}
+use Rattle.lexer.specs.declared.bytes.Class.the-variants.{Blank, Digit, Word}
 
 abbrev pub belongs : Class → ℕ → Bool
 belongs Blank b = isBlank b

@@ -2,7 +2,7 @@
 
 use crate::bytes::Class;
 use crate::bytes::run;
-use crate::lexer::Lexer;
+use crate::cursor::Lexer;
 use crate::scan::scan;
 use language::Token;
 ghost use Prim.Native.Nat.{ℕ, _≤_};
@@ -10,7 +10,7 @@ ghost use mathlib.Core.Path.{_≡_};
 ghost use lib.ListN.{length};
 ghost use denote.Ref.{now as behind};
 ghost use Rattle.language.specs.Tokens.{Lexeme, lexeme, after};
-ghost use Rattle.reader.specs.Lexing.{plain};
+ghost use Rattle.lexer.specs.Lexing.{plain};
 
 impl<'a> Lexer<'a> {
     /// A cursor at the start of the text.

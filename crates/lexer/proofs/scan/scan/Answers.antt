@@ -1,6 +1,6 @@
 use mathlib.Core.Path.{sym, _∙_}
-use Rattle.reader.proofs.Lexes.{scan-mark, mark-within}
-use Rattle.reader.proofs.scan.scan.Needs as need
+use Rattle.lexer.proofs.Lexes.{scan-mark, mark-within}
+use Rattle.lexer.proofs.scan.scan.Needs as need
 
 pub returns-else-is-small : need.returns-else-is-small
 returns-else-is-small c =

@@ -5,7 +5,7 @@ use lib.ListN.{length-drop}
 use borrow.Author.Needs.{needs}
 use Rattle.std.proofs.shelf.Lists.{take-rest, length-take, length-drop}
 use Rattle.language.specs.Tokens.{longer, numeralAt}
-use Rattle.reader.proofs.scan.minus_at.Needs as need
+use Rattle.lexer.proofs.scan.minus_at.Needs as need
 
 pub returns : need.returns
 returns c =
