@@ -5,6 +5,8 @@ use crate::operator::Prefix;
 use crate::operator::PrefixRow;
 use crate::operator::Row;
 use crate::operator::ValueType;
+use crate::operator::ValueType::Number;
+use crate::operator::ValueType::Truth;
 use bytecode::Argument;
 use bytecode::Instruction;
 ghost use mathlib.Core.Path.{_≡_};
@@ -35,48 +37,12 @@ impl Operator {
         ensures { λ r. ⌜ r ≡ rowOf self ⌝ }
     {
         match self {
-            Operator::Or => row_of(
-                1,
-                true,
-                ValueType::Truth,
-                ValueType::Truth,
-                Instruction::Ori,
-            ),
-            Operator::And => row_of(
-                2,
-                true,
-                ValueType::Truth,
-                ValueType::Truth,
-                Instruction::Multi,
-            ),
-            Operator::Equal => row_of(
-                3,
-                false,
-                ValueType::Number,
-                ValueType::Truth,
-                Instruction::Eqi,
-            ),
-            Operator::AtMost => row_of(
-                3,
-                false,
-                ValueType::Number,
-                ValueType::Truth,
-                Instruction::Leqi,
-            ),
-            Operator::Plus => row_of(
-                4,
-                true,
-                ValueType::Number,
-                ValueType::Number,
-                Instruction::Addi,
-            ),
-            Operator::Times => row_of(
-                5,
-                true,
-                ValueType::Number,
-                ValueType::Number,
-                Instruction::Multi,
-            ),
+            Operator::Or => row_of(1, true, Truth, Truth, Instruction::Ori),
+            Operator::And => row_of(2, true, Truth, Truth, Instruction::Multi),
+            Operator::Equal => row_of(3, false, Number, Truth, Instruction::Eqi),
+            Operator::AtMost => row_of(3, false, Number, Truth, Instruction::Leqi),
+            Operator::Plus => row_of(4, true, Number, Number, Instruction::Addi),
+            Operator::Times => row_of(5, true, Number, Number, Instruction::Multi),
         }
     }
 }
@@ -88,14 +54,14 @@ impl Prefix {
     {
         match self {
             Prefix::Not => PrefixRow {
-                takes: ValueType::Truth,
-                gives: ValueType::Truth,
+                takes: Truth,
+                gives: Truth,
                 constant: Argument::plus(0),
                 instruction: Instruction::Eqi,
             },
             Prefix::Increment => PrefixRow {
-                takes: ValueType::Number,
-                gives: ValueType::Number,
+                takes: Number,
+                gives: Number,
                 constant: Argument::plus(1),
                 instruction: Instruction::Addi,
             },

@@ -12,6 +12,7 @@ use planning::Plan;
 use planning::place;
 use planning::plan;
 use pointing::point;
+use pointing::trimmed;
 use refusal::Refusal;
 use refusal::RefusalDisplay;
 use sentence::sentence;
@@ -64,21 +65,25 @@ fn accepted(rt: &LibcRuntime, rule: Plan, listing: &[u8]) -> Result<(), AnyError
 // The refusal, the line of the rule with a caret under the place, and a sentence.
 fn refused(rt: &LibcRuntime, why: Refusal, text: &[u8]) -> Result<(), AnyError> {
     eprintln!(rt, "{why}")?;
+    let text = trimmed(text);
+    let mut ended = false;
     if let Some(place) = place(why) {
+        ended = place >= text.len();
         let shown = point(rt.alloc(), text, place)?;
         rt.stderr().write_all(shown.as_slice())?;
     }
-    eprintln!(rt, "{}", sentence(why))?;
-    Err("the rule is refused".into())
+    eprintln!(rt, "{}", sentence(why, ended))?;
+    Ok(())
 }
 
-fn run(rt: &LibcRuntime) -> Result<(), AnyError> {
+// Whether the rule was accepted.
+fn run(rt: &LibcRuntime) -> Result<bool, AnyError> {
     let mut args = env::args(rt)?;
     let _ = args.next();
     let file = args.next();
     if args.next().is_some() {
         rt.eprintln(USAGE)?;
-        return Err("too many arguments".into());
+        return Ok(false);
     }
     let heap: Global = rt.alloc();
     let text = input(rt, file)?;
@@ -94,12 +99,20 @@ fn run(rt: &LibcRuntime) -> Result<(), AnyError> {
         Ok(rule) => {
             let listing = output.as_slice();
             let end = rule.listing;
-            accepted(rt, rule, &listing[0..end])
+            accepted(rt, rule, &listing[0..end])?;
+            Ok(true)
         }
-        Err(why) => refused(rt, why, text.as_slice()),
+        Err(why) => {
+            refused(rt, why, text.as_slice())?;
+            Ok(false)
+        }
     }
 }
 
 fn main(rt: LibcRuntime) -> Result<(), AnyError> {
-    run(&rt)
+    match run(&rt) {
+        Ok(true) => Ok(()),
+        Ok(false) => Err("no listing".into()),
+        Err(error) => rt.report(Err(error)),
+    }
 }

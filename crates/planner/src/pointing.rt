@@ -8,8 +8,8 @@ fn is_blank(byte: u8) -> bool {
     byte == b' ' || byte == b'\t' || byte == b'\n' || byte == b'\r'
 }
 
-// The text without the blanks at its end.
-fn trimmed(text: &[u8]) -> &[u8] {
+/// The text without the blanks at its end.
+pub(crate) fn trimmed(text: &[u8]) -> &[u8] {
     let mut end = text.len();
     for (i, byte) in text.iter().enumerate() {
         if !is_blank(*byte) {
@@ -34,10 +34,8 @@ fn line_start(text: &[u8], place: usize) -> usize {
     start
 }
 
-/// The line of the text that holds the place, and under it a caret. A place behind all that is written is shown behind
-/// the last byte that is no blank.
+/// The line of the text that holds the place, and under it a caret. A place behind the text is shown at its end.
 pub(crate) fn point(heap: Global, text: &[u8], place: usize) -> Result<Vec<u8>, AllocError> {
-    let text = trimmed(text);
     let start = line_start(text, place);
     let mut shown = Vec::new(heap);
     let mut under = Vec::new(heap);

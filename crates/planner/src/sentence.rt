@@ -2,12 +2,13 @@
 
 use refusal::Refusal;
 
-/// What is wrong, in one sentence.
-pub(crate) fn sentence(why: Refusal) -> &'static str {
+/// What is wrong, in one sentence. `ended` says that the place is the end of the text.
+pub(crate) fn sentence(why: Refusal, ended: bool) -> &'static str {
     match why {
         Refusal::TextTooLong(_) => "The rule is longer than 4,096 bytes.",
         Refusal::NoToken(_) => "No number, name, word or mark of the language begins here.",
         Refusal::NumberTooLarge(_) => "Numbers lie between -255 and 255.",
+        Refusal::Unexpected(_) if ended => "The rule ends here, and something is still missing.",
         Refusal::Unexpected(_) => "This cannot follow what stands before it.",
         Refusal::UnboundName(_) => "No let around it binds this name, and no field has it.",
         Refusal::TooDeep(_) => "Parentheses, if, let, not and ++ nest at most 64 deep.",
