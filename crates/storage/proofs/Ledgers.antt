@@ -76,10 +76,9 @@ rest-more answers after first n i answer l put same = ap (drop n) put ∙ (drop-
 
 -- the operations are all performed
 pub all-performed :
-    (room room′ : ℕ) (operations : List Operation) (i : ℕ) (listed : List Word) →
-    listed ≡ take room′ (ledger (take i operations)) → room′ ≡ room → length operations ≤ i → listed ≡ take room (ledger operations)
-all-performed room room′ operations i listed e same l =
-    e ∙ (ap (λ n. take n (ledger (take i operations))) same ∙ ap (λ os. take room (ledger os)) (take-all i operations l))
+    (room : ℕ) (operations : List Operation) (i : ℕ) (listed : List Word) →
+    listed ≡ take room (ledger (take i operations)) → length operations ≤ i → listed ≡ take room (ledger operations)
+all-performed room operations i listed e l = e ∙ ap (λ os. take room (ledger os)) (take-all i operations l)
 
 -- one more operation, in bytes
 pub more-written :

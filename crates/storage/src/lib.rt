@@ -6,6 +6,7 @@ use bytecode::Word;
 use memory::CodeMemory;
 pub use written::write_all;
 ghost use Prim.Native.Nat.{_<_};
+ghost use mathlib.Core.List.{[]};
 ghost use mathlib.Core.Path.{_≡_};
 ghost use lib.ListN.{length, set, take, drop};
 ghost use Rattle.std.specs.Finite.{nth};
@@ -45,6 +46,20 @@ fn write_answer(answers: &mut [bool], i: usize, answer: bool)
     }
 }
 
+// Performs the operations on an empty memory.
+fn perform_all<M: CodeMemory>(memory: &mut M, operations: &[Operation], answers: &mut [bool])
+    requires { ⌜ M·CodeMemory .listed (now memory) ≡ [] ⌝ }
+    ensures same { λ _. ⌜ M·CodeMemory .room (now (memory .exit)) ≡ M·CodeMemory .room (now (memory .entry)) ⌝ }
+    ensures after { λ _. ⌜ M·CodeMemory .listed (now (memory .exit)) ≡ take (M·CodeMemory .room (now (memory .entry))) (ledger (now (operations .entry))) ⌝ }
+    ensures told { λ _. ⌜ Told (M·CodeMemory .room (now (memory .entry))) (now (operations .entry)) (now (answers .exit)) ⌝ }
+    ensures rest { λ _. ⌜ drop (length (now (operations .entry))) (now (answers .exit)) ≡ drop (length (now (operations .entry))) (now (answers .entry)) ⌝ }
+{
+    for (i, operation) in operations.iter().enumerate() {
+        let answer = perform(memory, *operation);
+        write_answer(answers, i, answer);
+    }
+}
+
 /// Empties the memory, performs the operations one after another, and writes whether each was done, as far as the
 /// answers reach. The memory then lists the words asked for since the last clear, as many as it has room for.
 pub fn operate<M: CodeMemory>(memory: &mut M, operations: &[Operation], answers: &mut [bool])
@@ -54,10 +69,7 @@ pub fn operate<M: CodeMemory>(memory: &mut M, operations: &[Operation], answers:
     ensures rest { λ _. ⌜ drop (length (now (operations .entry))) (now (answers .exit)) ≡ drop (length (now (operations .entry))) (now (answers .entry)) ⌝ }
 {
     memory.clear();
-    for (i, operation) in operations.iter().enumerate() {
-        let answer = perform(memory, *operation);
-        write_answer(answers, i, answer);
-    }
+    perform_all(memory, operations, answers);
 }
 
 /// What the memory answers at a place after it is emptied and the operations are performed.

@@ -1,7 +1,7 @@
 use mathlib.Core.Path.{_≡_}
 use lib.ListN.{length, take, drop}
 use Rattle.storage.specs.Ledger.{ledger, ToldBelow}
-use Rattle.storage.proofs.operate.Given as given
+use Rattle.storage.proofs.perform_all.Given as given
 
 abbrev pub Inv-loop-i : given.InvT-loop-i
 Inv-loop-i g l =
