@@ -1,10 +1,17 @@
 //! The grammar of rules, and that reading keeps it.
 
-ghost use Rattle.grammar.specs.Laws.{Faithful, Sized, Closed};
+ghost use Rattle.grammar.specs.Laws.{Sound, Complete, Unambiguous, Faithful, Sized, Closed};
 
 /// A table is that of one tree, with an entry for each node.
 pub fn tables_stand()
     ensures faithful { λ _. ⌜ Faithful ⌝ }
     ensures sized { λ _. ⌜ Sized ⌝ }
-{
-}
+{}
+
+/// What is read is what the grammar derives; tokens have at most one tree, and each name in it is bound.
+pub fn grammar_stands()
+    ensures sound { λ _. ⌜ Sound ⌝ }
+    ensures complete { λ _. ⌜ Complete ⌝ }
+    ensures unambiguous { λ _. ⌜ Unambiguous ⌝ }
+    ensures closed { λ _. ⌜ Closed ⌝ }
+{}
