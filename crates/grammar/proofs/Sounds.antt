@@ -96,7 +96,7 @@ data Reads : State → List Entry → List Lexeme → Type 0 where
   names : {s : State} {out : List Entry} {ts : List Lexeme} → Names s out ts → Reads s out ts
   got : {s : State} {out : List Entry} {ts : List Lexeme} → Got s out ts → Reads s out ts
 
-err-ok : {X : Type 0} {P : Type 0} (d : Refusal) (u : X) → _≡_ {A = Result X Refusal} (Err d) (Ok u) → P
+pub err-ok : {X : Type 0} {P : Type 0} (d : Refusal) (u : X) → _≡_ {A = Result X Refusal} (Err d) (Ok u) → P
 err-ok d u e = let z : _≡_ {A = ℕ} 0 1 = cc in absurd (omega arith)
 
 moves : (s v : State) (xs ys out o : List Entry) (ts : List Lexeme) → Reads s o ts → o ≡ out ++ xs → _≡_ {A = Step} (Ok (s, xs)) (Ok (v, ys)) → Reads v (out ++ ys) ts

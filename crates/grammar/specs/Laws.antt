@@ -3,7 +3,8 @@ use Prim.Native.Nat.{ℕ}
 use mathlib.Core.Path.{_≡_}
 use mathlib.Core.List.{List, [], _∷_, _++_}
 use lib.ListN.{length}
-use Rattle.std.specs.declared.result.Result.the-variants.{Ok}
+use Rattle.std.specs.declared.result.Result.the-variants.{Ok, Err}
+use Rattle.refusal.specs.declared.Refusal.{Refusal}
 use Rattle.language.specs.Fold.{feeds, fresh}
 use Rattle.language.specs.Reading.{tokens, parse}
 use Rattle.language.specs.Tokens.{Lexeme}
@@ -50,12 +51,23 @@ pub record Means (text : List ℕ) (t : Tree) : Type 0 where
   pub ends : end .kind ≡ End
   pub derived : Rule rule t
 
+-- what a text that is read stands for, and that the entries are its table
+pub record Parsed (text : List ℕ) (es : List Entry) : Type 0 where
+  pub tree : Tree
+  pub means : Means text tree
+  pub table : es ≡ flatten tree
+  pub bound : Bound 8 tree
+
 -- the same laws over texts
 abbrev pub TextSound : Type 0
-TextSound = (text : List ℕ) (es : List Entry) → parse text ≡ Ok es → (t : Tree) × Means text t × (es ≡ flatten t)
+TextSound = (text : List ℕ) (es : List Entry) → parse text ≡ Ok es → Parsed text es
 
 abbrev pub TextComplete : Type 0
 TextComplete = (text : List ℕ) (t : Tree) → Means text t → parse text ≡ Ok (flatten t)
 
 abbrev pub TextUnambiguous : Type 0
 TextUnambiguous = (text : List ℕ) (t u : Tree) → Means text t → Means text u → t ≡ u
+
+-- a text that is refused stands for no tree
+abbrev pub TextRefused : Type 0
+TextRefused = (text : List ℕ) (r : Refusal) (t : Tree) → parse text ≡ Err r → Means text t → ⊥

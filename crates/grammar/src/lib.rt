@@ -1,6 +1,6 @@
 //! The grammar of rules, and that reading keeps it.
 
-ghost use Rattle.grammar.specs.Laws.{Sound, Complete, Unambiguous, Faithful, Sized, Closed};
+ghost use Rattle.grammar.specs.Laws.{Sound, Complete, Unambiguous, Faithful, Sized, Closed, TextSound, TextComplete, TextUnambiguous, TextRefused};
 
 /// A table is that of one tree, with an entry for each node.
 pub fn tables_stand()
@@ -14,4 +14,12 @@ pub fn grammar_stands()
     ensures complete { λ _. ⌜ Complete ⌝ }
     ensures unambiguous { λ _. ⌜ Unambiguous ⌝ }
     ensures closed { λ _. ⌜ Closed ⌝ }
+{}
+
+/// A text is read as the one tree that it stands for, or refused, and then it stands for none.
+pub fn texts_stand()
+    ensures sound { λ _. ⌜ TextSound ⌝ }
+    ensures complete { λ _. ⌜ TextComplete ⌝ }
+    ensures unambiguous { λ _. ⌜ TextUnambiguous ⌝ }
+    ensures refused { λ _. ⌜ TextRefused ⌝ }
 {}
