@@ -385,11 +385,18 @@ after-close (leaving-it y z i q a xe r ye c ze pe we ne ee te) w n v zs ys out t
 after-close (valuing y m i q a xe me ie he pe we ne te) w n v zs ys out ts x o k wd e = err-ok _ (v, ys) e
 after-close (binding y m i z q a xe me ie r ye ge pe we ne ee te) w n v zs ys out ts x o k wd e = err-ok _ (v, ys) e
 
--- an operator
+-- an operator that is not refused
+joins : (o : Operator) (p : ℕ) (u v : State) (es ys : List Entry) → joined o p u es ≡ Ok (v, ys) →
+    (above (u .frames) ≡ level o → ⊥) × (_≡_ {A = Step} (Ok (opened (BinaryMark o) p (start (u .frames)) Operand u, es)) (Ok (v, ys)))
+joins o p u v es ys e =
+    by-cases (eqb (above (u .frames)) (level o)) _
+    (λ b. err-ok _ (v, ys) (sym (cond-true _ (Err (Unexpected p)) (Ok (opened (BinaryMark o) p (start (u .frames)) Operand u, es)) b) ∙ e))
+    (λ b.
+    (eqb-false (above (u .frames)) (level o) b, sym (cond-false _ (Err (Unexpected p)) (Ok (opened (BinaryMark o) p (start (u .frames)) Operand u, es)) b) ∙ e))
+
 after-binary : (s v : State) (out ys : List Entry) (ts : List Lexeme) (x : Lexeme) (o : Operator) → x .kind ≡ Binary o → Got s out ts →
     joined o (x .place) (ended (ends o) s) (endings (ends o) s) ≡ Ok (v, ys) → Reads v (out ++ ys) (ts ++ x ∷ [])
 after-binary s v out ys ts x o k g e =
-    let j = ends o in
     let same : ends o ≡ leftLevel o = ends-left o in
     let lo = level-low o in
     let hi = level-top o in
@@ -398,14 +405,11 @@ after-binary s v out ys ts x o k g e =
     let c = closing s out ts (ends o) (omega arith) g in
     let whole : ts ++ x ∷ [] ≡ c .front ++ (c .part ++ x ∷ []) =
     ap (λ y. y ++ x ∷ []) (sym (c .tokens ∙ g .tokens)) ∙ append-assoc (c .front) (c .part) (x ∷ []) in
-    let u = ended (ends o) s in
-    by-cases (eqb (above (u .frames)) (level o)) _
-    (λ b. err-ok _ (v, ys) (sym (cond-true _ (Err (Unexpected (x .place))) (Ok (opened (BinaryMark o) (x .place) (start (u .frames)) Operand u, endings (ends o) s)) b) ∙ e))
-    (λ b.
-    let apart = eqb-false _ _ b in
+    let j = joins o (x .place) (ended (ends o) s) v (endings (ends o) s) ys e in
+    let apart = j .0 in
     let top : above (left (ends o) (s .frames)) < ends o = above-left (ends o) (s .frames) (omega arith) in
     let below : above (left (ends o) (s .frames)) < level o = omega arith in
-    let r : Waits (opened (BinaryMark o) (x .place) (start (u .frames)) Operand u) (out ++ endings (ends o) s) (ts ++ x ∷ []) =
+    let r : Waits (opened (BinaryMark o) (x .place) (start (left (ends o) (s .frames))) Operand (ended (ends o) s)) (out ++ endings (ends o) s) (ts ++ x ∷ []) =
     record {
       d = c .d;
       still =
@@ -414,8 +418,7 @@ after-binary s v out ys ts x o k g e =
       idle = refl;
       counts = ended-counts s out ts (ends o) g;
     } in
-    moves _ v _ ys out _ _ (waits r) refl
-    (sym (cond-false _ (Err (Unexpected (x .place))) (Ok (opened (BinaryMark o) (x .place) (start (u .frames)) Operand u, endings (ends o) s)) b) ∙ e))
+    moves _ v _ ys out _ _ (waits r) refl (j .1)
 
 after-got : (s v : State) (out ys : List Entry) (ts : List Lexeme) (x : Lexeme) (k : TokenKind) → x .kind ≡ k → (k ≡ End → ⊥) → Got s out ts →
     goneOn (sequelOf k) s k (x .place) ≡ Ok (v, ys) → Reads v (out ++ ys) (ts ++ x ∷ [])

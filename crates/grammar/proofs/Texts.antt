@@ -1,34 +1,35 @@
 -- Tokens have at most one tree, and the laws over texts.
-use Prim.Native.Nat.{ℕ, zero, suc, _+_, _≤_, _<_}
+use Prim.Native.Nat.{ℕ, zero, suc, _+_, _≤_, _<_, min}
 use mathlib.Core.Path.{_≡_, refl, sym, ap, subst, _∙_}
 use mathlib.Core.Bool.{Bool, true, false, cond, _&&_, _||_}
 use mathlib.Core.Logic.{_⊎_, inl, inr}
 use mathlib.Core.List.{List, [], _∷_, _++_}
 use native.Mathlib.Omega.{arith}
-use lib.Dec.{eqb, leb}
+use lib.Dec.{eqb, leb, ltb}
 use lib.ListN.{length, getD, drop, length-drop}
 use Rattle.std.proofs.shelf.Lists.{drop-all}
-use Rattle.std.proofs.shelf.Tests.{cond-true, cond-false, true≢false, both-ways, eqb-false, or-left, cases-lt}
+use Rattle.std.proofs.shelf.Tests.{cond-true, cond-false, true≢false, both-ways, eqb-false, or-left, cases-lt, ltb-false, le-ltb}
 use Rattle.std.specs.declared.option.Option.{Option}
 use Rattle.std.specs.declared.option.Option.the-variants.{Some, None}
 use Rattle.std.specs.declared.result.Result.{Result}
 use Rattle.std.specs.declared.result.Result.the-variants.{Ok, Err}
 use Rattle.refusal.specs.declared.Refusal.{Refusal}
+use Rattle.refusal.specs.declared.Refusal.the-variants.{TextTooLong, TooManyEntries}
 use Rattle.language.specs.Fold.{State, Step, duly, feed, feeds, followed, prefixed, fresh}
-use Rattle.language.specs.Reading.{isLast, tokensFrom, tokens, parse}
+use Rattle.language.specs.Reading.{isLast, tokensFrom, tokens, parse, fitted, reading}
 use Rattle.language.specs.Tokens.{Lexeme, lexeme, after, begins, scanned, begun, isBlank, isDigit, isSmall, isWord, isMinus, twoMark, oneMark, markBy, runOf}
-use Rattle.language.specs.Tree.{Tree, flatten}
+use Rattle.language.specs.Tree.{Tree, size, flatten}
 use Rattle.language.specs.declared.entry.Entry.{Entry}
 use Rattle.language.specs.declared.frame.Due.{Due}
 use Rattle.language.specs.declared.frame.Due.the-variants.{Operand, Binder as BinderDue, Equals, Operator as OperatorDue}
 use Rattle.language.specs.declared.token.TokenKind.{TokenKind}
 use Rattle.language.specs.declared.token.TokenKind.the-variants.{Number, Truth, Name, Binary, Prefix, If, Then, Else, Let, In, Open, Close, End, TooLarge, Bad}
-use Rattle.grammar.specs.Laws.{Endless, Means, Parsed, Unambiguous, TextSound, TextComplete, TextUnambiguous, TextRefused}
+use Rattle.grammar.specs.Laws.{Endless, Means, Parsed, Read, Unambiguous, TextSound, TextExact, TextComplete, TextUnambiguous, TextRefused, ReadingSound, ReadingComplete}
 use Rattle.grammar.proofs.Bounds.{closed}
 use Rattle.grammar.proofs.Completes.{complete}
 use Rattle.grammar.proofs.Frames.{by-cases}
 use Rattle.grammar.proofs.Sounds.{err-ok, sound}
-use Rattle.grammar.proofs.Trees.{faithful}
+use Rattle.grammar.proofs.Trees.{faithful, length-flatten}
 
 abbrev an-end : Lexeme
 an-end = record { kind = End; place = 0; text = [] }
@@ -85,6 +86,9 @@ record Split (ts : List Lexeme) : Type 0 where
   endless : Endless front
   ends : isLast (last .kind) ≡ true
 
+extended : (b : Bool) (x e : Lexeme) (ts front : List Lexeme) → b ≡ false → ts ≡ front ++ e ∷ [] → cond b (x ∷ []) (x ∷ ts) ≡ x ∷ (front ++ e ∷ [])
+extended b x e ts front h w = cond-false b (x ∷ []) (x ∷ ts) h ∙ ap (λ y. x ∷ y) w
+
 split : (n : ℕ) (text : List ℕ) (p : ℕ) → 1 ≤ n → length text + 1 ≤ p + n → Split (tokensFrom n text p)
 split zero text p h l = absurd (omega arith)
 split (suc n) text p h l =
@@ -98,7 +102,7 @@ split (suc n) text p h l =
     record {
       front = lexeme text p ∷ s .front;
       last = s .last;
-      whole = cond-false _ (lexeme text p ∷ []) (lexeme text p ∷ tokensFrom n text (after text p)) b ∙ ap (λ y. lexeme text p ∷ y) (s .whole);
+      whole = extended (isLast (lexeme text p .kind)) (lexeme text p) (s .last) (tokensFrom n text (after text p)) (s .front) b (s .whole);
       endless = ((λ e. both-ways _ b (ap isLast e)), s .endless);
       ends = s .ends;
     })
@@ -153,6 +157,11 @@ text-sound text es h =
       bound = closed (s .front) (r .0) (r .1);
     }
 
+pub text-exact : TextExact
+text-exact text t h =
+    let p = text-sound text (flatten t) h in
+    subst (λ u. Means text u) (faithful (p .tree) t (sym (p .table))) (p .means)
+
 pub text-complete : TextComplete
 text-complete text t m = ap (feeds fresh) (m .all) ∙ complete (m .rule) (m .end) t (m .derived) (m .ends)
 
@@ -165,3 +174,30 @@ text-unambiguous text t u m n =
 
 pub text-refused : TextRefused
 text-refused text r t e m = err-ok r (flatten t) (sym e ∙ text-complete text t m)
+
+-- a table that is fitted
+fitted-ok : (room : ℕ) (r : Result (List Entry) Refusal) (es : List Entry) → fitted room r ≡ Ok es → (r ≡ Ok es) × (length es ≤ min room 512)
+fitted-ok room (Err e) es h = err-ok e es h
+fitted-ok room (Ok fs) es h =
+    by-cases (ltb (min room 512) (length fs)) _
+    (λ b. err-ok _ es (sym (cond-true _ (Err (TooManyEntries (length fs))) (Ok fs) b) ∙ h))
+    (λ b.
+    let e : _≡_ {A = Result (List Entry) Refusal} (Ok fs) (Ok es) = sym (cond-false _ (Err (TooManyEntries (length fs))) (Ok fs) b) ∙ h in
+    let same : fs ≡ es = cc in
+    let l = ltb-false (min room 512) (length fs) b in
+    (e, subst (λ y. length y ≤ min room 512) same l))
+
+pub reading-sound : ReadingSound
+reading-sound room text es h =
+    by-cases (ltb 4096 (length text)) _
+    (λ b. err-ok _ es (sym (cond-true _ (Err (TextTooLong (length text))) (fitted room (parse text)) b) ∙ h))
+    (λ b.
+    let f = fitted-ok room (parse text) es (sym (cond-false _ (Err (TextTooLong (length text))) (fitted room (parse text)) b) ∙ h) in
+    record { parsed = text-sound text es (f .0); short = ltb-false 4096 (length text) b; fits = f .1 })
+
+pub reading-complete : ReadingComplete
+reading-complete room text t m l f =
+    let n : length (flatten t) ≤ min room 512 = omega (arith, length-flatten t) in
+    cond-false _ (Err (TextTooLong (length text))) (fitted room (parse text)) (le-ltb 4096 (length text) l)
+    ∙ ap (fitted room) (text-complete text t m)
+    ∙ cond-false _ (Err (TooManyEntries (length (flatten t)))) (Ok (flatten t)) (le-ltb (min room 512) (length (flatten t)) n)

@@ -1,12 +1,12 @@
 -- How reading keeps the grammar.
-use Prim.Native.Nat.{ℕ}
+use Prim.Native.Nat.{ℕ, _≤_, min}
 use mathlib.Core.Path.{_≡_}
 use mathlib.Core.List.{List, [], _∷_, _++_}
 use lib.ListN.{length}
 use Rattle.std.specs.declared.result.Result.the-variants.{Ok, Err}
 use Rattle.refusal.specs.declared.Refusal.{Refusal}
 use Rattle.language.specs.Fold.{feeds, fresh}
-use Rattle.language.specs.Reading.{tokens, parse}
+use Rattle.language.specs.Reading.{tokens, parse, reading}
 use Rattle.language.specs.Tokens.{Lexeme}
 use Rattle.language.specs.Tree.{Tree, size, flatten}
 use Rattle.language.specs.declared.entry.Entry.{Entry}
@@ -62,6 +62,10 @@ pub record Parsed (text : List ℕ) (es : List Entry) : Type 0 where
 abbrev pub TextSound : Type 0
 TextSound = (text : List ℕ) (es : List Entry) → parse text ≡ Ok es → Parsed text es
 
+-- a text that is read as the table of a tree stands for that tree
+abbrev pub TextExact : Type 0
+TextExact = (text : List ℕ) (t : Tree) → parse text ≡ Ok (flatten t) → Means text t
+
 abbrev pub TextComplete : Type 0
 TextComplete = (text : List ℕ) (t : Tree) → Means text t → parse text ≡ Ok (flatten t)
 
@@ -71,3 +75,16 @@ TextUnambiguous = (text : List ℕ) (t u : Tree) → Means text t → Means text
 -- a text that is refused stands for no tree
 abbrev pub TextRefused : Type 0
 TextRefused = (text : List ℕ) (r : Refusal) (t : Tree) → parse text ≡ Err r → Means text t → ⊥
+
+-- the same for a table of `room` entries: a text of at most 4096 bytes whose tree has at most 512 nodes, and no more than there is room for
+pub record Read (room : ℕ) (text : List ℕ) (es : List Entry) : Type 0 where
+  pub parsed : Parsed text es
+  pub short : length text ≤ 4096
+  pub fits : length es ≤ min room 512
+
+abbrev pub ReadingSound : Type 0
+ReadingSound = (room : ℕ) (text : List ℕ) (es : List Entry) → reading room text ≡ Ok es → Read room text es
+
+abbrev pub ReadingComplete : Type 0
+ReadingComplete =
+    (room : ℕ) (text : List ℕ) (t : Tree) → Means text t → length text ≤ 4096 → size t ≤ min room 512 → reading room text ≡ Ok (flatten t)
