@@ -5,3 +5,4 @@ pub mod Opened
 pub mod Sounds
 pub mod Completes
 pub mod Texts
+pub mod Examples

@@ -1,5 +1,6 @@
 //! The grammar of rules, and that reading keeps it.
 
+ghost use Rattle.grammar.specs.Examples.{Examples};
 ghost use Rattle.grammar.specs.Laws.{Sound, Complete, Unambiguous, Faithful, Sized, Closed, TextSound, TextExact, TextComplete, TextUnambiguous, TextRefused, ReadingSound, ReadingComplete};
 
 /// A table is that of one tree, with an entry for each node.
@@ -29,4 +30,9 @@ pub fn texts_stand()
 pub fn reading_stands()
     ensures sound { λ _. ⌜ ReadingSound ⌝ }
     ensures complete { λ _. ⌜ ReadingComplete ⌝ }
+{}
+
+/// Texts whose trees are known.
+pub fn examples_stand()
+    ensures { λ _. ⌜ Examples ⌝ }
 {}
