@@ -1,5 +1,8 @@
 //! The grammar of rules, and that reading keeps it.
 
+mod rule;
+
+pub use rule::Rule;
 ghost use Rattle.grammar.specs.Examples.{Examples};
 ghost use Rattle.grammar.specs.Laws.{Sound, Complete, Unambiguous, Faithful, Sized, Closed, TextSound, TextExact, TextComplete, TextUnambiguous, TextRefused, ReadingSound, ReadingComplete};
 

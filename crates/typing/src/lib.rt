@@ -4,6 +4,3 @@ mod scope;
 mod walk;
 
 pub use walk::judge;
-
-#[cfg(test)]
-mod tests;

@@ -4,11 +4,10 @@ use crate::scope::Scope;
 ghost use Prim.Native.Nat.{_+_, _≤_, _<_};
 ghost use mathlib.Core.Path.{_≡_};
 ghost use lib.ListN.{length};
-ghost use Rattle.std.specs.declared.result.Result.the-variants.{Err};
 ghost use Rattle.language.specs.Tree.{Tree, flatten};
 ghost use Rattle.language.specs.Typing.{sameType, fitting, known, typed, typeOf};
-ghost use Rattle.refusal.specs.declared.Refusal.the-variants.{TooManyEntries};
 ghost use Rattle.typing.specs.Judged.{judged, innermost, prefixed, paired, chosen};
+use grammar::Rule;
 use language::Entry;
 use language::Operator;
 use language::Prefix;
@@ -114,15 +113,10 @@ fn type_of(entries: &[Entry], scope: &mut Scope) -> Result<ValueType, Refusal>
     }
 }
 
-/// The type of the rule in the table, or the place of the first entry in post-order whose types do not fit. A table of
-/// more than 512 entries is refused.
-pub fn judge(entries: &[Entry]) -> Result<ValueType, Refusal>
-    ensures value { λ r. ⌜ ((t : Tree) → now (entries .entry) ≡ flatten t → length (now (entries .entry)) ≤ 512 → r ≡ judged (typeOf t)) ⌝ }
-    ensures refused { λ r. ⌜ (512 < length (now (entries .entry)) → r ≡ Err (TooManyEntries (length (now (entries .entry))))) ⌝ }
+/// The type of the rule, or the place of the first entry in post-order whose types do not fit.
+pub fn judge(rule: Rule<'_>) -> Result<ValueType, Refusal>
+    ensures { λ r. ⌜ ((t : Tree) → now (rule .entry .entries) ≡ flatten t → r ≡ judged (typeOf t)) ⌝ }
 {
-    if entries.len() > 512 {
-        return Err(Refusal::TooManyEntries(entries.len()));
-    }
     let mut scope = Scope::new();
-    type_of(entries, &mut scope)
+    type_of(rule.entries, &mut scope)
 }
