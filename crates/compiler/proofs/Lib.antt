@@ -2,3 +2,4 @@ mod Placed
 mod Added
 mod Emitted
 mod Translated
+pub mod Carded

@@ -1,3 +1,4 @@
 pub mod Layouts
 pub mod Emitting
 pub mod Translating
+pub mod Cards

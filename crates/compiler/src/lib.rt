@@ -1,12 +1,10 @@
 //! Translating a rule: the words of the tree in a table, written to a code memory.
 
+mod card;
 mod emit;
 mod layout;
 mod measure;
 mod writing;
 
-pub use measure::Measure;
+pub use card::Card;
 pub use writing::translate;
-
-#[cfg(test)]
-mod tests;

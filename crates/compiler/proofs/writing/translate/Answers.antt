@@ -1,52 +1,42 @@
-use Prim.Native.Nat.{_+_, _*_, _≤_}
-use mathlib.Core.Path.{_≡_, _∙_, refl, sym, ap, subst}
+use native.Mathlib.Bridge.{le-prop}
 use native.Mathlib.Omega.{arith}
-use lib.ListN.{length}
+use mathlib.Core.Logic.{∥∥₁-elim}
+use mathlib.Core.Path.{refl}
 use Rattle.std.proofs.shelf.Results.{err-from-errBy}
-use Rattle.std.specs.Results.{Cases}
-use Rattle.std.specs.declared.option.Option.the-variants.{None}
-use Rattle.std.specs.declared.result.Result.{Result}
-use Rattle.std.specs.declared.result.Result.the-variants.{Ok, Err}
-use Rattle.refusal.specs.declared.Refusal.{Refusal}
-use Rattle.language.specs.Tree.{Tree, flatten}
-use Rattle.compiler.specs.Translating.{reasonFor, answerOf, codeAfter}
-use Rattle.compiler.specs.declared.measure.Measure.{Measure}
-use Rattle.compiler.proofs.Emitted.{emits-at}
-use Rattle.compiler.proofs.Translated.{whole, accepted, no-refusal}
+use Rattle.language.specs.Code.{refusalOf}
+use Rattle.compiler.proofs.Carded.{some-words, carded, refused, at-refusal}
 use Rattle.compiler.proofs.writing.translate.Needs as need
 
-pub returns-in-Break-emit : need.returns-in-Break-emit
-returns-in-Break-emit g c =
-    let es = c .args .entries .now in
-    let shape = c .measure-shape .result in
+pub ghost-result : need.ghost-result
+ghost-result g c =
     let room = g .M·CodeMemory .room (c .args .memory .now) in
-    let free : None ≡ reasonFor room shape = c .in-rest .ensures tt ∙ ap (λ x. reasonFor x shape) (c .capacity .ensures .value) in
-    let emitted = emits-at es _ _ _ refl refl (c .clear .ensures .same) (c .in-Break-emit .ensures tt .value) in
+    let m = c .in-Continue-measure .measure in
+    let told = c .in-Continue-measure .ensures tt in
+    let few = c .args .rule .few in
+    let bounds = told .bounds in (
+      ∥∥₁-elim (c .args .rule .formed) le-prop (λ f. some-words (refusalOf room (f .tree)) (f .tree) m (told .value (f .tree) (f .table))),
+      (omega (arith, bounds .0), (bounds .1, (bounds .2, tt))),
+    )
+
+pub returns-in-Break-measure : need.returns-in-Break-measure
+returns-in-Break-measure g c =
+    let room = g .M·CodeMemory .room (c .args .memory .now) in
+    let told = c .in-Break-measure .ensures tt in
     let p = err-from-errBy (c .from-residual .result) (c .from-residual .ensures .1) in
-    let never : (t : Tree) → es ≡ flatten t → ⊥ = λ t h. no-refusal room shape _ _ t (whole es _ _ room shape _ _ _ (c .measure-shape .ensures .value) free (c .fields-layout .ensures .spots) (c .fields-layout .ensures .height) (c .clear .ensures .after) emitted t h) in
     record {
-      same = c .emit .ensures .same ∙ c .clear .ensures .same;
-      value = λ t h _. absurd (never t h);
-      code = λ t h _. absurd (never t h);
-      kept = λ t h. absurd (never t h);
-      bounds = subst (λ (x : Result Measure Refusal). Cases x (λ m. (m .length ≤ 3 * length es) × (8 ≤ m .height) × (m .height ≤ 128)) (λ _. Unit {0})) (sym (p .1)) tt;
-      refused = λ h. absurd (omega arith);
+      same = told .same;
+      value = λ t h. refused (refusalOf room t) (c .args .gives) t _ _ _ (told .value t h) (p .1) (p .2);
+      code = λ t h. told .code t h;
+      kept = λ t h. at-refusal (c .from-residual .result) _ (p .1) (told .kept t h);
     }
 
 pub returns : need.returns
 returns g c =
-    let es = c .args .entries .now in
-    let shape = c .measure-shape .result in
     let room = g .M·CodeMemory .room (c .args .memory .now) in
-    let free : None ≡ reasonFor room shape = c .in-rest .ensures tt ∙ ap (λ x. reasonFor x shape) (c .capacity .ensures .value) in
-    let emitted = emits-at es _ _ _ refl refl (c .clear .ensures .same) (c .in-Continue-emit .ensures tt .value) in
-    let all = whole es _ _ room shape _ _ _ (c .measure-shape .ensures .value) free (c .fields-layout .ensures .spots) (c .fields-layout .ensures .height) (c .clear .ensures .after) emitted in
-    let low = accepted room shape free .low in
+    let told = c .in-Continue-measure .ensures tt in
     record {
-      same = c .emit .ensures .same ∙ c .clear .ensures .same;
-      value = λ t h _. ap (λ x. Ok (record { length = x .length; height = 8 + x .tall })) (all t h .shape) ∙ sym (ap (λ x. answerOf x t) (all t h .free));
-      code = λ t h _. all t h .words ∙ sym (ap (λ x. codeAfter x t (g .M·CodeMemory .listed (c .args .memory .now))) (all t h .free));
+      same = told .same;
+      value = λ t h. carded (refusalOf room t) (c .args .gives) t (c .in-Continue-measure .measure) _ (told .value t h) refl refl refl;
+      code = λ t h. told .code t h;
       kept = λ t h. tt;
-      bounds = (c .measure-shape .ensures .length, omega arith, low);
-      refused = λ h. absurd (omega arith);
     }
