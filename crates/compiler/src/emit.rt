@@ -65,7 +65,7 @@ fn put_constant<M: CodeMemory>(
 
 /// Adds the code of the tree in the table to the memory, over a stack that is laid out so; the layout is left as it
 /// was. An if measures its two branches before it writes them, so a part is measured once for each if around it.
-pub fn emit<M: CodeMemory>(
+pub(crate) fn emit<M: CodeMemory>(
     entries: &[Entry],
     layout: &mut Layout,
     memory: &mut M,

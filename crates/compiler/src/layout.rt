@@ -28,7 +28,7 @@ fn from_top(height: usize, below: usize) -> usize
 
 impl Layout {
     /// The eight fields, the first on top.
-    pub fn fields() -> Layout
+    pub(crate) fn fields() -> Layout
         ensures height { λ r. ⌜ r .height ≡ 8 ⌝ }
         ensures spots { λ r. ⌜ newest (r .spots) (r .bindings) ≡ spotsOf fieldSlots ⌝ }
     {
@@ -48,7 +48,7 @@ impl Layout {
     }
 
     /// A pushed word is an operand that waits.
-    pub fn wait(&mut self)
+    pub(crate) fn wait(&mut self)
         requires { ⌜ now self .height < 520 ⌝ }
         ensures height { λ _. ⌜ now (self .exit) .height ≡ now (self .entry) .height + 1 ⌝ }
         ensures bindings { λ _. ⌜ now (self .exit) .bindings ≡ now (self .entry) .bindings ⌝ }
@@ -58,7 +58,7 @@ impl Layout {
     }
 
     /// The operand is taken off.
-    pub fn resume(&mut self)
+    pub(crate) fn resume(&mut self)
         requires { ⌜ now self .bindings < now self .height ⌝ }
         ensures height { λ _. ⌜ now (self .exit) .height + 1 ≡ now (self .entry) .height ⌝ }
         ensures bindings { λ _. ⌜ now (self .exit) .bindings ≡ now (self .entry) .bindings ⌝ }
@@ -68,7 +68,7 @@ impl Layout {
     }
 
     /// A pushed word is the value of a let.
-    pub fn bind(&mut self)
+    pub(crate) fn bind(&mut self)
         requires { ⌜ now self .height < 520 ⌝ }
         ensures height { λ _. ⌜ now (self .exit) .height ≡ now (self .entry) .height + 1 ⌝ }
         ensures bindings { λ _. ⌜ now (self .exit) .bindings ≡ now (self .entry) .bindings + 1 ⌝ }
@@ -80,7 +80,7 @@ impl Layout {
     }
 
     /// The let ends.
-    pub fn unbind(&mut self)
+    pub(crate) fn unbind(&mut self)
         requires { ⌜ 0 < now self .bindings ⌝ }
         ensures height { λ _. ⌜ now (self .exit) .height + 1 ≡ now (self .entry) .height ⌝ }
         ensures bindings { λ _. ⌜ now (self .exit) .bindings + 1 ≡ now (self .entry) .bindings ⌝ }
@@ -91,7 +91,7 @@ impl Layout {
     }
 
     /// How many words stand above the binding at a position, 0 being the innermost; all of them, where there is none.
-    pub fn above(&self, position: u8) -> usize
+    pub(crate) fn above(&self, position: u8) -> usize
         ensures { λ r. ⌜ ((s : List Slot) → spotsOf s ≡ newest (now (self .entry) .spots) (now (self .entry) .bindings) → length s ≡ now (self .entry) .height → r ≡ above s position) ⌝ }
     {
         let position = position as usize;

@@ -67,7 +67,7 @@ fn put_argument(out: &mut [u8], at: usize, argument: Option<Argument>) -> usize
 }
 
 // Writes the line of an instruction at a place of the code.
-pub fn put_line(out: &mut [u8], at: usize, place: usize, instruction: Instruction) -> usize
+pub(crate) fn put_line(out: &mut [u8], at: usize, place: usize, instruction: Instruction) -> usize
     requires { ⌜ at ≤ 2 ^ 32 ⌝ }
     ensures out { λ _. ⌜ now (out .exit) ≡ laid (now (out .entry)) at (lineOf place instruction) ⌝ }
     ensures end { λ r. ⌜ r ≡ at + length (lineOf place instruction) ⌝ }

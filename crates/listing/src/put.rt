@@ -7,7 +7,7 @@ ghost use Rattle.std.specs.Written.{decimal};
 ghost use Rattle.listing.specs.Output.{laid};
 
 // Writes a byte at a place, and returns the next place.
-pub fn put(out: &mut [u8], at: usize, byte: u8) -> usize
+pub(crate) fn put(out: &mut [u8], at: usize, byte: u8) -> usize
     requires { ⌜ at < 2 ^ 40 ⌝ }
     ensures out { λ _. ⌜ now (out .exit) ≡ set (now (out .entry)) at byte ⌝ }
     ensures end { λ r. ⌜ r ≡ at + 1 ⌝ }
@@ -19,7 +19,7 @@ pub fn put(out: &mut [u8], at: usize, byte: u8) -> usize
 }
 
 // The same of a text.
-pub fn put_text(out: &mut [u8], at: usize, text: &[u8]) -> usize
+pub(crate) fn put_text(out: &mut [u8], at: usize, text: &[u8]) -> usize
     requires { ⌜ at + length (now text) ≤ 2 ^ 40 ⌝ }
     ensures out { λ _. ⌜ now (out .exit) ≡ laid (now (out .entry)) at (now (text .entry)) ⌝ }
     ensures end { λ r. ⌜ r ≡ at + length (now (text .entry)) ⌝ }
@@ -32,7 +32,7 @@ pub fn put_text(out: &mut [u8], at: usize, text: &[u8]) -> usize
 }
 
 // The same of a number, in decimal.
-pub fn put_number(out: &mut [u8], at: usize, n: usize) -> usize
+pub(crate) fn put_number(out: &mut [u8], at: usize, n: usize) -> usize
     requires { ⌜ at ≤ 2 ^ 36 ⌝ }
     ensures out { λ _. ⌜ now (out .exit) ≡ laid (now (out .entry)) at (decimal n) ⌝ }
     ensures end { λ r. ⌜ r ≡ at + length (decimal n) ⌝ }

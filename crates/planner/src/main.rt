@@ -52,12 +52,12 @@ fn input(rt: &LibcRuntime, file: Option<String>) -> Result<Vec<u8>, AnyError> {
 // The listing, and the line that tells type, length and height.
 fn accepted(rt: &LibcRuntime, rule: Plan, listing: &[u8]) -> Result<(), AnyError> {
     rt.stdout().write_all(listing)?;
-    let gives = match rule.gives {
+    let gives = match rule.card.gives {
         ValueType::Number => "number",
         ValueType::Truth => "truth",
     };
-    let length = rule.length;
-    let height = rule.height;
+    let length = rule.card.length;
+    let height = rule.card.height;
     println!(rt, "{gives}, {length} words, height {height}")?;
     Ok(())
 }

@@ -1,13 +1,16 @@
 -- What is told of a rule, or why there is nothing to tell.
 use Prim.Native.Nat.{ℕ}
-use mathlib.Core.List.{map}
+use mathlib.Core.List.{List, map}
+use mathlib.Core.Path.{_≡_}
+use Rattle.std.specs.Results.{Cases}
 use Rattle.std.specs.declared.option.Option.{Option}
 use Rattle.std.specs.declared.option.Option.the-variants.{Some, None}
 use Rattle.std.specs.declared.result.Result.{Result}
 use Rattle.std.specs.declared.result.Result.the-variants.{Ok, Err}
 use Rattle.refusal.specs.declared.Refusal.{Refusal}
 use Rattle.bytecode.specs.Words.{written}
-use Rattle.language.specs.Code.{long, height, translation, refusalOf}
+use Rattle.compiler.specs.Cards.{Tells}
+use Rattle.language.specs.Code.{translation, refusalOf}
 use Rattle.language.specs.Tree.{Tree}
 use Rattle.language.specs.Typing.{typeOf}
 use Rattle.language.specs.declared.operator.ValueType.{ValueType}
@@ -16,21 +19,22 @@ use Rattle.listing.specs.Output.{answerOf}
 use Rattle.typing.specs.Judged.{judged}
 use Rattle.planning.specs.declared.told.Plan.{Plan}
 
-abbrev pub told : ValueType → Tree → ℕ → Plan
-told a t n = record { gives = a; length = long t; height = height t; listing = n }
+-- the text of the rule's code
+abbrev pub listed : Tree → Result (List ℕ) Refusal
+listed t = listing 0 (map written (translation t))
 
-abbrev pub listedAs : Result ℕ Refusal → ValueType → Tree → Result Plan Refusal
-listedAs (Ok n) a t = Ok (told a t n)
-listedAs (Err e) a t = Err e
+abbrev pub Listed : Result ℕ Refusal → ValueType → Tree → Result Plan Refusal → Type 0
+Listed (Ok n) a t r = Cases r (λ p. Tells a t (p .card) × (p .listing ≡ n)) (λ e. ⊥)
+Listed (Err e) a t r = r ≡ Err e
 
-abbrev pub codedAs : Option Refusal → ℕ → ValueType → Tree → Result Plan Refusal
-codedAs (Some e) limit a t = Err e
-codedAs None limit a t = listedAs (answerOf (listing 0 (map written (translation t))) limit) a t
+abbrev pub Coded : Option Refusal → ℕ → ValueType → Tree → Result Plan Refusal → Type 0
+Coded (Some e) limit a t r = r ≡ Err e
+Coded None limit a t r = Listed (answerOf (listed t) limit) a t r
 
-abbrev pub typedAs : Result ValueType Refusal → ℕ → ℕ → Tree → Result Plan Refusal
-typedAs (Ok a) room limit t = codedAs (refusalOf room t) limit a t
-typedAs (Err e) room limit t = Err e
+abbrev pub Typed : Result ValueType Refusal → ℕ → ℕ → Tree → Result Plan Refusal → Type 0
+Typed (Ok a) room limit t r = Coded (refusalOf room t) limit a t r
+Typed (Err e) room limit t r = r ≡ Err e
 
 -- judged, then translated into a memory with that room, then listed in so many bytes
-abbrev pub planOf : ℕ → ℕ → Tree → Result Plan Refusal
-planOf room limit t = typedAs (judged (typeOf t)) room limit t
+abbrev pub Planned : ℕ → ℕ → Tree → Result Plan Refusal → Type 0
+Planned room limit t r = Typed (judged (typeOf t)) room limit t r

@@ -2,6 +2,7 @@
 
 use crate::told::Plan;
 use compiler::translate;
+use grammar::Rule;
 use language::Entry;
 use listing::list;
 use memory::Flat;
@@ -9,13 +10,27 @@ use memory::FlatIsCodeMemory;
 use reader::read;
 use refusal::Refusal;
 use typing::judge;
+ghost use Prim.Native.Nat.{_≤_, min};
 ghost use mathlib.Core.Path.{_≡_};
 ghost use lib.ListN.{length};
-ghost use Prim.Native.Nat.{_*_, _≤_};
-ghost use Rattle.std.specs.Results.{Cases};
 ghost use Rattle.std.specs.declared.result.Result.the-variants.{Err};
 ghost use Rattle.refusal.specs.declared.Refusal.{Refusal};
+ghost use Rattle.grammar.specs.Laws.{Means};
 ghost use Rattle.language.specs.Reading.{reading, leaves};
+ghost use Rattle.language.specs.Tree.{Tree, flatten, size};
+ghost use Rattle.memory.specs.Flat.{roomIn};
+ghost use Rattle.planning.specs.Plans.{Planned};
+
+// Judges a rule, translates it into the code, and lists the code in the output.
+fn list_rule(rule: Rule<'_>, code: &mut [u8], output: &mut [u8]) -> Result<Plan, Refusal>
+    ensures { λ r. ⌜ ((t : Tree) → now (rule .entry .entries) ≡ flatten t → Planned (roomIn (now (code .entry))) (length (now (output .entry))) t r) ⌝ }
+{
+    let gives = judge(rule)?;
+    let mut memory = Flat::new(code);
+    let card = translate(rule, gives, &mut memory)?;
+    let listing = list(&memory, output)?;
+    Ok(Plan { card, listing })
+}
 
 /// Reads the rule into the table, judges it, translates it into the code, and lists the code in the output; answers
 /// what is told of the rule, or the first refusal of these parts.
@@ -27,18 +42,11 @@ pub fn plan(
 ) -> Result<Plan, Refusal>
     ensures table { λ _. ⌜ now (table .exit) ≡ leaves (now (table .entry)) (reading (length (now (table .entry))) (now (text .entry))) ⌝ }
     ensures unread { λ r. ⌜ ((e : Refusal) → reading (length (now (table .entry))) (now (text .entry)) ≡ Err e → r ≡ Err e) ⌝ }
-    ensures bounds { λ r. ⌜ Cases r (λ p. (p .listing ≤ length (now (output .entry))) × (p .length ≤ 3 * length (now (table .entry))) × (8 ≤ p .height) × (p .height ≤ 128)) (λ _. Unit {0}) ⌝ }
+    ensures planned { λ r. ⌜ ((t : Tree) → Means (now (text .entry)) t → length (now (text .entry)) ≤ 4096 → size t ≤ min (length (now (table .entry))) 512 → Planned (roomIn (now (code .entry))) (length (now (output .entry))) t r) ⌝ }
 {
     let count = read(text, table)?;
-    let entries = &table[0..count];
-    let gives = judge(entries)?;
-    let mut memory = Flat::new(code);
-    let measure = translate(entries, &mut memory)?;
-    let listing = list(&memory, output)?;
-    Ok(Plan {
-        gives,
-        length: measure.length,
-        height: measure.height,
-        listing,
-    })
+    let rule = Rule {
+        entries: &table[0..count],
+    };
+    list_rule(rule, code, output)
 }

@@ -24,12 +24,12 @@ const BLANK: Entry = Entry {
 };
 
 fn told(rt: &LibcRuntime, rule: Plan) -> io::Result<()> {
-    let gives = match rule.gives {
+    let gives = match rule.card.gives {
         ValueType::Number => "number",
         ValueType::Truth => "truth",
     };
-    let length = rule.length;
-    let height = rule.height;
+    let length = rule.card.length;
+    let height = rule.card.height;
     println!(rt, "{gives} {length} {height}")
 }
 

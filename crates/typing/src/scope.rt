@@ -19,7 +19,7 @@ pub struct Scope {
 
 impl Scope {
     /// The eight fields alone.
-    pub fn new() -> Scope
+    pub(crate) fn new() -> Scope
         ensures count { λ r. ⌜ r .count ≡ 8 ⌝ }
         ensures types { λ r. ⌜ innermost (r .types) (r .count) ≡ fields ⌝ }
     {
@@ -30,7 +30,7 @@ impl Scope {
     }
 
     /// A let begins: its type is the innermost.
-    pub fn enter(&mut self, a: ValueType)
+    pub(crate) fn enter(&mut self, a: ValueType)
         requires { ⌜ now self .count < 520 ⌝ }
         ensures count { λ _. ⌜ now (self .exit) .count ≡ now (self .entry) .count + 1 ⌝ }
         ensures types { λ _. ⌜ innermost (now (self .exit) .types) (now (self .exit) .count) ≡ a ∷ innermost (now (self .entry) .types) (now (self .entry) .count) ⌝ }
@@ -40,7 +40,7 @@ impl Scope {
     }
 
     /// The innermost let ends.
-    pub fn leave(&mut self)
+    pub(crate) fn leave(&mut self)
         requires { ⌜ 0 < now self .count ⌝ }
         ensures count { λ _. ⌜ now (self .exit) .count + 1 ≡ now (self .entry) .count ⌝ }
         ensures types { λ _. ⌜ now (self .exit) .types ≡ now (self .entry) .types ⌝ }
@@ -49,7 +49,7 @@ impl Scope {
     }
 
     /// The type of the binding at a position, 0 being the innermost.
-    pub fn get(&self, position: u8) -> Option<ValueType>
+    pub(crate) fn get(&self, position: u8) -> Option<ValueType>
         ensures { λ r. ⌜ r ≡ nth (innermost (now (self .entry) .types) (now (self .entry) .count)) position ⌝ }
     {
         let position = position as usize;
