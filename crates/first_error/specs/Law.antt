@@ -11,7 +11,7 @@ use Rattle.refusal.specs.declared.Refusal.the-variants.{TextTooLong, NoToken, N
 use Rattle.language.specs.Reading.{parse, reading}
 use Rattle.language.specs.Tokens.{scanned}
 
--- the place in a text that a refusal carries
+-- the place of the token that reading refuses; other refusals are of no token
 abbrev pub placeOf : Refusal → Option ℕ
 placeOf (TextTooLong n) = None
 placeOf (NoToken p) = Some p
@@ -31,11 +31,12 @@ placeOf (OutputTooShort n) = None
 abbrev pub extent : List ℕ → ℕ → ℕ
 extent text p = max 1 (scanned (drop p text) .1)
 
--- two texts with the same bytes up to the end of the token that the first has at a place, and the byte behind it
+-- two texts with the same bytes up to the end of the token that the first has at a place, and the byte behind it;
+-- where the first text ends before that byte, so does the second
 abbrev pub SameUpTo : ℕ → List ℕ → List ℕ → Type 0
 SameUpTo p a b = take (p + extent a p + 1) a ≡ take (p + extent a p + 1) b
 
--- every refusal of a text carries a place
+-- a text is refused only at a token
 abbrev pub Placed : Type 0
 Placed = (a : List ℕ) (e : Refusal) → parse a ≡ Err e → (p : ℕ) × (placeOf e ≡ Some p)
 
