@@ -1,12 +1,12 @@
 -- The operations of an arithmetic, on its words and on what they mean.
 use Prim.Native.Nat.{ℕ, _+_, _-_, _*_, _%_}
 use mathlib.Core.Bool.{Bool, cond, _&&_}
-use mathlib.Core.Path.{_≡_}
 use lib.Dec.{leb, eqb}
 use lib.IntN.{ℤ, pos, negsuc, negℤ, _+ℤ_, _*ℤ_}
 use lib.Signed.{leZ}
 use Rattle.std.specs.declared.option.Option.{Option}
 use Rattle.std.specs.declared.option.Option.the-variants.{Some, None}
+use Rattle.bytecode.specs.Words.{plus}
 use Rattle.bytecode.specs.declared.argument.Argument.{Argument}
 
 -- `number`: the word for an argument. `plus`, `times`: the result, or none where it overflows. `same`: whether two words
@@ -24,6 +24,16 @@ pub record Meanings : Type 0 where
   pub plus : ℤ → ℤ → Option ℤ
   pub times : ℤ → ℤ → Option ℤ
   pub atMost : ℤ → ℤ → Bool
+
+-- the words for 0 and 1, and for a truth
+abbrev pub naught : {W : Type 0} → Ops W → W
+naught ops = ops .number (plus 0)
+
+abbrev pub unit : {W : Type 0} → Ops W → W
+unit ops = ops .number (plus 1)
+
+abbrev pub truth : {W : Type 0} → Ops W → Bool → W
+truth ops b = cond b (unit ops) (naught ops)
 
 -- the whole number that an argument is
 abbrev pub whole : Argument → ℤ

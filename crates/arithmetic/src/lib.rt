@@ -1,15 +1,13 @@
 //! Words to calculate with: one interface, and two arithmetics behind it.
 
 use bytecode::Argument;
-ghost use mathlib.Core.Bool.{true};
 ghost use mathlib.Core.Path.{_≡_};
 ghost use lib.IntN.{ℤ, pos};
 ghost use Rattle.std.specs.Options.{mapped};
 ghost use Rattle.std.specs.Orderings.{Decides};
 ghost use Rattle.std.specs.declared.option.Option.the-variants.{Some};
-ghost use Rattle.bytecode.specs.Words.{plus as argument};
 ghost use Rattle.bytecode.specs.declared.argument.Argument.{Argument};
-ghost use Rattle.arithmetic.specs.Words.{Ops, Meanings, whole, roundOps, roundMeanings, rangedOps, rangedMeanings};
+ghost use Rattle.arithmetic.specs.Words.{Ops, Meanings, naught, unit, whole, roundOps, roundMeanings, rangedOps, rangedMeanings};
 
 /// Words, each of which means one whole number. `ops` are the operations on words, and `on` what they come to on the numbers
 /// that the words mean.
@@ -34,17 +32,17 @@ pub trait Arithmetic {
 
     law told: { (x y : Self·Word) → Decides (ops .same x y) (means x ≡ means y) };
 
-    law zero: { means (ops .number (argument 0)) ≡ pos 0 };
+    law zero: { means (naught ops) ≡ pos 0 };
 
-    law one: { means (ops .number (argument 1)) ≡ pos 1 };
+    law one: { means (unit ops) ≡ pos 1 };
 
-    law zeros: { ops .times (ops .number (argument 0)) (ops .number (argument 0)) ≡ Some (ops .number (argument 0)) };
+    law zeros: { ops .times (naught ops) (naught ops) ≡ Some (naught ops) };
 
-    law zeroOne: { ops .times (ops .number (argument 0)) (ops .number (argument 1)) ≡ Some (ops .number (argument 0)) };
+    law zeroOne: { ops .times (naught ops) (unit ops) ≡ Some (naught ops) };
 
-    law oneZero: { ops .times (ops .number (argument 1)) (ops .number (argument 0)) ≡ Some (ops .number (argument 0)) };
+    law oneZero: { ops .times (unit ops) (naught ops) ≡ Some (naught ops) };
 
-    law ones: { ops .times (ops .number (argument 1)) (ops .number (argument 1)) ≡ Some (ops .number (argument 1)) };
+    law ones: { ops .times (unit ops) (unit ops) ≡ Some (unit ops) };
 
     /// The word for a number from −255 to 255.
     fn number(k: Argument) -> Self::Word
