@@ -18,7 +18,13 @@ pub(crate) fn sentence(why: Refusal, ended: bool) -> &'static str {
             "The rule keeps too many values at once: its stack is higher than 128.",
         Refusal::BranchTooLong(_) => "A branch of this if is too long to jump over.",
         Refusal::MemoryFull(_) => "The code of the rule does not fit the memory.",
+        Refusal::StackTooShort => "The stack is too short for the machine to begin.",
         Refusal::BadWord(_) => "The code holds a word that is no instruction.",
+        Refusal::StackEmpty(_) => "An instruction takes more values than the stack holds.",
+        Refusal::StackFull(_) => "The stack has no room for another value.",
+        Refusal::PlaceOutside(_) => "A branch leads outside the code.",
+        Refusal::BudgetSpent(_) => "The machine has made as many steps as it may.",
+        Refusal::Overflow(_) => "A result is too large for a word.",
         Refusal::OutputTooShort(_) => "The listing is too long for its buffer.",
     }
 }

@@ -22,7 +22,13 @@ pub fn place(refusal: Refusal) -> Option<usize>
         | Refusal::TooManyEntries(_)
         | Refusal::TooHigh(_)
         | Refusal::MemoryFull(_)
+        | Refusal::StackTooShort
         | Refusal::BadWord(_)
+        | Refusal::StackEmpty(_)
+        | Refusal::StackFull(_)
+        | Refusal::PlaceOutside(_)
+        | Refusal::BudgetSpent(_)
+        | Refusal::Overflow(_)
         | Refusal::OutputTooShort(_) => None,
     }
 }

@@ -14,10 +14,11 @@ pub enum Part {
     Translator,
     CodeMemory,
     Machine,
+    Arithmetic,
     Listing,
 }
 
-/// A refusal. A place counts bytes of the rule's text, and in `BadWord` words of code.
+/// A refusal. A place counts bytes of the rule's text; of `BadWord` and those of the machine, words of code.
 #[derive(Clone, Copy, PartialEq, Eq, Debug)]
 pub enum Refusal {
     /// The text has this many bytes, more than 4,096.
@@ -42,8 +43,20 @@ pub enum Refusal {
     BranchTooLong(usize),
     /// This many words do not fit; of one word appended, the capacity.
     MemoryFull(usize),
+    /// The stack is shorter than the base and the height of a run.
+    StackTooShort,
     /// The word at this place is no instruction.
     BadWord(usize),
+    /// The word at this place takes or reads more words than lie above the base.
+    StackEmpty(usize),
+    /// The word at this place has no room for a push.
+    StackFull(usize),
+    /// The word at this place goes on outside the code.
+    PlaceOutside(usize),
+    /// The budget is spent before the word at this place.
+    BudgetSpent(usize),
+    /// The result of the word at this place overflows.
+    Overflow(usize),
     /// The output would take this many bytes.
     OutputTooShort(usize),
 }
@@ -59,6 +72,7 @@ impl Part {
             Part::Translator => "translator",
             Part::CodeMemory => "code memory",
             Part::Machine => "machine",
+            Part::Arithmetic => "arithmetic",
             Part::Listing => "listing",
         }
     }
@@ -81,7 +95,13 @@ impl Refusal {
             Refusal::TooHigh(_) => 9,
             Refusal::BranchTooLong(_) => 10,
             Refusal::MemoryFull(_) => 11,
+            Refusal::StackTooShort => 14,
             Refusal::BadWord(_) => 15,
+            Refusal::StackEmpty(_) => 16,
+            Refusal::StackFull(_) => 17,
+            Refusal::PlaceOutside(_) => 18,
+            Refusal::BudgetSpent(_) => 19,
+            Refusal::Overflow(_) => 20,
             Refusal::OutputTooShort(_) => 21,
         }
     }
@@ -101,12 +121,18 @@ impl Refusal {
             Refusal::IllTyped(_) => Part::Judge,
             Refusal::TooHigh(_) | Refusal::BranchTooLong(_) => Part::Translator,
             Refusal::MemoryFull(_) => Part::CodeMemory,
-            Refusal::BadWord(_) => Part::Machine,
+            Refusal::StackTooShort
+            | Refusal::BadWord(_)
+            | Refusal::StackEmpty(_)
+            | Refusal::StackFull(_)
+            | Refusal::PlaceOutside(_)
+            | Refusal::BudgetSpent(_) => Part::Machine,
+            Refusal::Overflow(_) => Part::Arithmetic,
             Refusal::OutputTooShort(_) => Part::Listing,
         }
     }
 
-    /// What it carries: a place, a length, a height or a number of entries, words or bytes.
+    /// What it carries: a place, a length, a height or a number of entries, words or bytes; 0 where it carries nothing.
     pub fn detail(self) -> usize
         ensures { λ r. ⌜ r ≡ detailOf self ⌝ }
     {
@@ -123,7 +149,13 @@ impl Refusal {
             | Refusal::BranchTooLong(detail)
             | Refusal::MemoryFull(detail)
             | Refusal::BadWord(detail)
+            | Refusal::StackEmpty(detail)
+            | Refusal::StackFull(detail)
+            | Refusal::PlaceOutside(detail)
+            | Refusal::BudgetSpent(detail)
+            | Refusal::Overflow(detail)
             | Refusal::OutputTooShort(detail) => detail,
+            Refusal::StackTooShort => 0,
         }
     }
 }

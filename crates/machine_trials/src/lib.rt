@@ -1,0 +1,4 @@
+//! The machine tried on small code, over both arithmetics.
+
+#[cfg(test)]
+mod tests;
