@@ -1,2 +1,4 @@
 pub mod Lengths
 pub mod Heights
+pub mod Fed
+pub mod Reached

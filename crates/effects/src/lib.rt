@@ -1,11 +1,22 @@
 //! How the words of a rule keep the height of the stack.
 
-ghost use Rattle.effects.specs.Laws.{KeepsHeight, GoesAhead, AreShort};
+ghost use Rattle.effects.specs.Laws.{KeepsHeight, GoesAhead, IsBrief, ReachesHeight, IsFed, AreShort};
 
-/// Whichever way the words of a rule are walked, the stack stands between the eight fields and the rule's height, and at the end where it began; each step goes ahead.
+/// Whichever way the words of a rule are walked, the stack stands between the eight fields and the rule's height, and at the end where it began; each step goes ahead, so there is at most one for each word.
 pub fn translations_keep_their_height()
     ensures height { λ _. ⌜ KeepsHeight ⌝ }
     ensures ahead { λ _. ⌜ GoesAhead ⌝ }
+    ensures brief { λ _. ⌜ IsBrief ⌝ }
+{}
+
+/// The end and the height of a rule are reached, so that its height is the least that will do.
+pub fn translations_reach_their_height()
+    ensures { λ _. ⌜ ReachesHeight ⌝ }
+{}
+
+/// Each word that is reached finds on the stack what it needs, and takes off none of the eight fields.
+pub fn translations_are_fed()
+    ensures { λ _. ⌜ IsFed ⌝ }
 {}
 
 /// A rule has at least one word and at most three for each entry, and stands lower than it has entries.
