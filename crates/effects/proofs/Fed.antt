@@ -8,7 +8,6 @@ use native.Mathlib.Omega.{arith}
 use lib.ListN.{length}
 use Rattle.std.specs.Finite.{nth}
 use Rattle.std.proofs.shelf.Maps.{nth-past}
-use Rattle.std.specs.declared.option.Option.{Option}
 use Rattle.std.specs.declared.option.Option.the-variants.{Some, None}
 use Rattle.bytecode.specs.Words.{plus}
 use Rattle.bytecode.specs.declared.instruction.Instruction.{Instruction}
@@ -21,7 +20,6 @@ use Rattle.language.specs.declared.operator.Operator.{Operator}
 use Rattle.language.specs.declared.operator.Operator.the-variants.{Or, And, Equal, AtMost, Plus, Times}
 use Rattle.language.specs.declared.operator.Prefix.{Prefix}
 use Rattle.language.specs.declared.operator.Prefix.the-variants.{Not, Increment}
-use Rattle.effects.specs.Effects.{taken, needed}
 use Rattle.effects.specs.Laws.{Finds, IsFed}
 use Rattle.effects.proofs.Heights.{Spot, Inside, reached}
 use Rattle.effects.proofs.Lengths.{Lies, cut-code, lies, length-code}
@@ -51,13 +49,13 @@ prefix-finds Not b low = record { needs = omega arith; own = omega arith }
 prefix-finds Increment b low = record { needs = omega arith; own = omega arith }
 
 -- cases of four, and of five
-four : {A B C D G : Type 0} → A ⊎ (B ⊎ (C ⊎ D)) → (A → G) → (B → G) → (C → G) → (D → G) → G
+pub four : {A B C D G : Type 0} → A ⊎ (B ⊎ (C ⊎ D)) → (A → G) → (B → G) → (C → G) → (D → G) → G
 four (inl x) a b c d = a x
 four (inr (inl x)) a b c d = b x
 four (inr (inr (inl x))) a b c d = c x
 four (inr (inr (inr x))) a b c d = d x
 
-five : {A B C D E G : Type 0} → A ⊎ (B ⊎ (C ⊎ (D ⊎ E))) → (A → G) → (B → G) → (C → G) → (D → G) → (E → G) → G
+pub five : {A B C D E G : Type 0} → A ⊎ (B ⊎ (C ⊎ (D ⊎ E))) → (A → G) → (B → G) → (C → G) → (D → G) → (E → G) → G
 five (inl x) a b c d e = a x
 five (inr (inl x)) a b c d e = b x
 five (inr (inr (inl x))) a b c d e = c x

@@ -1,17 +1,16 @@
 -- Each place of a rule has one height, and a step leads from the height of its place to that of the next.
-use Prim.Native.Nat.{ℕ, zero, suc, _+_, _-_, _≤_, _<_, max}
+use Prim.Native.Nat.{ℕ, _+_, _≤_, _<_}
 use mathlib.Core.List.{List, [], _∷_, _++_}
 use mathlib.Core.Logic.{_⊎_, inl, inr}
-use mathlib.Core.Path.{_≡_, refl, sym, ap, subst, _∙_}
+use mathlib.Core.Path.{_≡_, refl, ap, subst, _∙_}
 use native.Mathlib.Omega.{arith}
 use Rattle.std.specs.Finite.{nth}
 use Rattle.std.proofs.shelf.Maps.{nth-past}
-use Rattle.std.specs.declared.option.Option.{Option}
 use Rattle.std.specs.declared.option.Option.the-variants.{Some, None}
 use Rattle.bytecode.specs.Words.{plus}
 use Rattle.bytecode.specs.declared.instruction.Instruction.{Instruction}
-use Rattle.bytecode.specs.declared.instruction.Instruction.the-variants.{Push, Consti, Acc, Popi, Branch, Branchif}
-use Rattle.language.specs.Code.{Slot, bound, waiting, code, long, tall, height, translation, fieldSlots}
+use Rattle.bytecode.specs.declared.instruction.Instruction.the-variants.{Push, Consti, Popi, Branch, Branchif}
+use Rattle.language.specs.Code.{Slot, bound, waiting, code, long, tall, translation, fieldSlots}
 use Rattle.language.specs.Operators.{rowOf, prefixRowOf}
 use Rattle.language.specs.Tree.{Tree, number, truth, name, prefix, binary, choose, bind}
 use Rattle.language.specs.declared.operator.Operator.{Operator}

@@ -1,9 +1,9 @@
 -- The end of a rule is reached, and so is its height.
-use Prim.Native.Nat.{ℕ, zero, suc, _+_, _-_, _≤_, _<_, max}
+use Prim.Native.Nat.{ℕ, _+_, max}
 use mathlib.Core.List.{List, [], _∷_, _++_}
 use mathlib.Core.Bool.{cond}
-use mathlib.Core.Logic.{_⊎_, inl, inr}
-use mathlib.Core.Path.{_≡_, refl, sym, ap, subst, _∙_}
+use mathlib.Core.Logic.{inl, inr}
+use mathlib.Core.Path.{_≡_, refl, subst}
 use native.Mathlib.Omega.{arith, max-cases}
 use Rattle.std.specs.Finite.{nth}
 use Rattle.std.specs.declared.option.Option.the-variants.{Some}
@@ -17,11 +17,11 @@ use Rattle.language.specs.declared.operator.Operator.{Operator}
 use Rattle.language.specs.declared.operator.Operator.the-variants.{Or, And, Equal, AtMost, Plus, Times}
 use Rattle.language.specs.declared.operator.Prefix.{Prefix}
 use Rattle.language.specs.declared.operator.Prefix.the-variants.{Not, Increment}
-use Rattle.effects.specs.Effects.{after, Next, Leads, Walks, here, more}
-use Rattle.effects.specs.Laws.{Reached, ReachesHeight}
+use Rattle.effects.specs.Effects.{after, Next, Walks, here, more}
+use Rattle.effects.specs.Laws.{ReachesHeight}
 use Rattle.effects.proofs.Lengths.{Lies, cut-code, lies}
 
-operator-next : (o : Operator) (p : ℕ) → Next (rowOf o .instruction) p (p + 1)
+pub operator-next : (o : Operator) (p : ℕ) → Next (rowOf o .instruction) p (p + 1)
 operator-next Or p = refl
 operator-next And p = refl
 operator-next Equal p = refl
@@ -37,7 +37,7 @@ operator-after AtMost b = omega arith
 operator-after Plus b = omega arith
 operator-after Times b = omega arith
 
-prefix-next : (o : Prefix) (p : ℕ) → Next (prefixRowOf o .instruction) p (p + 1)
+pub prefix-next : (o : Prefix) (p : ℕ) → Next (prefixRowOf o .instruction) p (p + 1)
 prefix-next Not p = refl
 prefix-next Increment p = refl
 

@@ -6,7 +6,6 @@ use mathlib.Core.Logic.{_⊎_}
 use mathlib.Core.Path.{_≡_}
 use Rattle.std.specs.Finite.{nth}
 use Rattle.std.specs.declared.option.Option.the-variants.{Some}
-use Rattle.bytecode.specs.declared.argument.Argument.{Argument}
 use Rattle.bytecode.specs.declared.instruction.Instruction.{Instruction}
 use Rattle.bytecode.specs.declared.instruction.Instruction.the-variants.{Push, Addi, Eqi, Ori, Consti, Pop, Acc, Popi, Branch, Branchif, Assign, Multi, Leqi}
 

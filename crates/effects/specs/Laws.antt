@@ -29,6 +29,10 @@ GoesAhead = (t : Tree) (q h r k : ℕ) → Walks (translation t) 0 8 q h → Lea
 abbrev pub IsBrief : Type 0
 IsBrief = (t : Tree) (q h : ℕ) (w : Walks (translation t) 0 8 q h) → steps w ≤ long t
 
+-- before the end there is a next step
+abbrev pub GoesOn : Type 0
+GoesOn = (t : Tree) (q h : ℕ) → Walks (translation t) 0 8 q h → q < long t → (r : ℕ) × (k : ℕ) × Leads (translation t) q h r k
+
 -- the rule's end is reached, and so is its height: no lower one would do
 pub record Reached (t : Tree) : Type 0 where
   pub end : Walks (translation t) 0 8 (long t) 8

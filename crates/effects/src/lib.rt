@@ -1,12 +1,13 @@
 //! How the words of a rule keep the height of the stack.
 
-ghost use Rattle.effects.specs.Laws.{KeepsHeight, GoesAhead, IsBrief, ReachesHeight, IsFed, AreShort};
+ghost use Rattle.effects.specs.Laws.{KeepsHeight, GoesAhead, IsBrief, GoesOn, ReachesHeight, IsFed, AreShort};
 
-/// Whichever way the words of a rule are walked, the stack stands between the eight fields and the rule's height, and at the end where it began; each step goes ahead, so there is at most one for each word.
+/// Whichever way the words of a rule are walked, the stack stands between the eight fields and the rule's height, and at the end where it began; each step goes ahead, so there is at most one for each word, and there is a next one up to the end.
 pub fn translations_keep_their_height()
     ensures height { λ _. ⌜ KeepsHeight ⌝ }
     ensures ahead { λ _. ⌜ GoesAhead ⌝ }
     ensures brief { λ _. ⌜ IsBrief ⌝ }
+    ensures on { λ _. ⌜ GoesOn ⌝ }
 {}
 
 /// The end and the height of a rule are reached, so that its height is the least that will do.
