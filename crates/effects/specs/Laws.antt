@@ -33,7 +33,7 @@ IsBrief = (t : Tree) (q h : ℕ) (w : Walks (translation t) 0 8 q h) → steps w
 abbrev pub GoesOn : Type 0
 GoesOn = (t : Tree) (q h : ℕ) → Walks (translation t) 0 8 q h → q < long t → (r : ℕ) × (k : ℕ) × Leads (translation t) q h r k
 
--- the rule's end is reached, and so is its height: no lower one would do
+-- some way leads to the end, and some way to the height; either branch of an if may be taken, whatever its condition
 pub record Reached (t : Tree) : Type 0 where
   pub end : Walks (translation t) 0 8 (long t) 8
   pub top : ℕ

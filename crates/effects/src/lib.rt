@@ -10,12 +10,12 @@ pub fn translations_keep_their_height()
     ensures on { λ _. ⌜ GoesOn ⌝ }
 {}
 
-/// The end and the height of a rule are reached, so that its height is the least that will do.
+/// Some way leads to the end of a rule, and some way to its height: where both branches of each if count, no lower height would do.
 pub fn translations_reach_their_height()
     ensures { λ _. ⌜ ReachesHeight ⌝ }
 {}
 
-/// Each word that is reached finds on the stack what it needs, and takes off none of the eight fields.
+/// Where each name of a rule has a binding, each word that is reached finds on the stack what it needs, and takes off none of the eight fields.
 pub fn translations_are_fed()
     ensures { λ _. ⌜ IsFed ⌝ }
 {}
