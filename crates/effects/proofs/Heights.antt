@@ -1,25 +1,24 @@
 -- Each place of a rule has one height, and a step leads from the height of its place to that of the next.
-use Prim.Native.Nat.{ℕ, zero, suc, _+_, _-_, _≤_, _<_, max}
+use Prim.Native.Nat.{ℕ, _+_, _≤_, _<_}
 use mathlib.Core.List.{List, [], _∷_, _++_}
 use mathlib.Core.Logic.{_⊎_, inl, inr}
-use mathlib.Core.Path.{_≡_, refl, sym, ap, subst, _∙_}
+use mathlib.Core.Path.{_≡_, refl, ap, subst, _∙_}
 use native.Mathlib.Omega.{arith}
 use Rattle.std.specs.Finite.{nth}
 use Rattle.std.proofs.shelf.Maps.{nth-past}
-use Rattle.std.specs.declared.option.Option.{Option}
 use Rattle.std.specs.declared.option.Option.the-variants.{Some, None}
 use Rattle.bytecode.specs.Words.{plus}
 use Rattle.bytecode.specs.declared.instruction.Instruction.{Instruction}
-use Rattle.bytecode.specs.declared.instruction.Instruction.the-variants.{Push, Consti, Acc, Popi, Branch, Branchif}
-use Rattle.language.specs.Code.{Slot, bound, waiting, code, long, tall, height, translation, fieldSlots}
+use Rattle.bytecode.specs.declared.instruction.Instruction.the-variants.{Push, Consti, Popi, Branch, Branchif}
+use Rattle.language.specs.Code.{Slot, bound, waiting, code, long, tall, translation, fieldSlots}
 use Rattle.language.specs.Operators.{rowOf, prefixRowOf}
 use Rattle.language.specs.Tree.{Tree, number, truth, name, prefix, binary, choose, bind}
 use Rattle.language.specs.declared.operator.Operator.{Operator}
 use Rattle.language.specs.declared.operator.Operator.the-variants.{Or, And, Equal, AtMost, Plus, Times}
 use Rattle.language.specs.declared.operator.Prefix.{Prefix}
 use Rattle.language.specs.declared.operator.Prefix.the-variants.{Not, Increment}
-use Rattle.effects.specs.Effects.{after, Next, Leads, Walks, here, more}
-use Rattle.effects.specs.Laws.{Kept, KeepsHeight, GoesAhead}
+use Rattle.effects.specs.Effects.{after, Next, Leads, Walks, here, more, steps}
+use Rattle.effects.specs.Laws.{Kept, KeepsHeight, GoesAhead, IsBrief}
 use Rattle.effects.proofs.Lengths.{Lies, cut-code, lies, length-code, long-some}
 
 -- the place q is p, and the height h is b
@@ -100,7 +99,7 @@ between (bind x t u) p b q h (inr (inr (inl e))) =
 between (bind x t u) p b q h (inr (inr (inr e))) = record { from = omega arith; to = omega arith; low = omega arith; high = omega arith }
 
 -- a step from inside leads ahead, and stays inside or leaves at the end, as high as the tree began
-abbrev Steps : Tree → ℕ → ℕ → ℕ → ℕ → ℕ → Type 0
+abbrev pub Steps : Tree → ℕ → ℕ → ℕ → ℕ → ℕ → Type 0
 Steps t p b q r j = (q < r) × (Inside t p b r j ⊎ Spot (p + long t) b r j)
 
 -- an operator's instruction takes one word off
@@ -220,29 +219,29 @@ module _ (whole : List Instruction) (q h r j : ℕ) (go : Leads whole q h r j) w
       from-chosen (lt, inl i) = (lt, inl (inr (inr (inr (inr i)))))
       from-chosen (lt, inr i) = (lt, inr (record { place = omega arith; high = i .high }))
 
-  steps : (t : Tree) (s : List Slot) (p b : ℕ) → Lies whole p (code s t) → Inside t p b q h → Steps t p b q r j
-  steps (number k x) s p b c e = leaf (Consti k) p b (c .0) e (λ n. n) (omega arith)
-  steps (truth v x) s p b c e = leaf _ p b (c .0) e (λ n. n) (omega arith)
-  steps (name k x) s p b c e = leaf _ p b (c .0) e (λ n. n) (omega arith)
-  steps (prefix o x t) s p b c e =
+  pub stays : (t : Tree) (s : List Slot) (p b : ℕ) → Lies whole p (code s t) → Inside t p b q h → Steps t p b q r j
+  stays (number k x) s p b c e = leaf (Consti k) p b (c .0) e (λ n. n) (omega arith)
+  stays (truth v x) s p b c e = leaf _ p b (c .0) e (λ n. n) (omega arith)
+  stays (name k x) s p b c e = leaf _ p b (c .0) e (λ n. n) (omega arith)
+  stays (prefix o x t) s p b c e =
       let d = cut-code whole s t (Push ∷ Consti (prefixRowOf o .constant) ∷ prefixRowOf o .instruction ∷ []) p c in
-      one o t x p b (d .1) (λ i. steps t s p b (d .0) i) e
-  steps (binary o x t u) s p b c e =
+      one o t x p b (d .1) (λ i. stays t s p b (d .0) i) e
+  stays (binary o x t u) s p b c e =
       let d = cut-code whole s t (Push ∷ (code (waiting ∷ s) u ++ rowOf o .instruction ∷ [])) p c in
       let f = cut-code whole (waiting ∷ s) u (rowOf o .instruction ∷ []) (p + long t + 1) (d .1 .1) in
-      two t u p b (d .1 .0) (λ i. steps t s p b (d .0) i) (λ i. steps u (waiting ∷ s) (p + long t + 1) (b + 1) (f .0) i)
+      two t u p b (d .1 .0) (λ i. stays t s p b (d .0) i) (λ i. stays u (waiting ∷ s) (p + long t + 1) (b + 1) (f .0) i)
       (λ i.
       let g = does (rowOf o .instruction) (p + long t + 1 + long u) (b + 1) (f .1 .0) i in
       operates o (p + long t + 1 + long u) b r j (g .0) (g .1)) e
-  steps (choose x t u v) s p b c e =
+  stays (choose x t u v) s p b c e =
       let d = cut-code whole s t (Branchif (plus (long v + 2)) ∷ (code s v ++ Branch (plus (long u + 1)) ∷ code s u)) p c in
       let f = cut-code whole s v (Branch (plus (long u + 1)) ∷ code s u) (p + long t + 1) (d .1 .1) in
-      three t u v x p b (d .1 .0) (f .1 .0) (λ i. steps t s p b (d .0) i) (λ i. steps v s (p + long t + 1) b (f .0) i)
-      (λ i. steps u s (p + long t + 1 + long v + 1) b (f .1 .1) i) e
-  steps (bind x t u) s p b c e =
+      three t u v x p b (d .1 .0) (f .1 .0) (λ i. stays t s p b (d .0) i) (λ i. stays v s (p + long t + 1) b (f .0) i)
+      (λ i. stays u s (p + long t + 1 + long v + 1) b (f .1 .1) i) e
+  stays (bind x t u) s p b c e =
       let d = cut-code whole s t (Push ∷ (code (bound ∷ s) u ++ Popi 1 ∷ [])) p c in
       let f = cut-code whole (bound ∷ s) u (Popi 1 ∷ []) (p + long t + 1) (d .1 .1) in
-      two t u p b (d .1 .0) (λ i. steps t s p b (d .0) i) (λ i. steps u (bound ∷ s) (p + long t + 1) (b + 1) (f .0) i)
+      two t u p b (d .1 .0) (λ i. stays t s p b (d .0) i) (λ i. stays u (bound ∷ s) (p + long t + 1) (b + 1) (f .0) i)
       (λ i.
       let g = does (Popi 1) (p + long t + 1 + long u) (b + 1) (f .1 .0) i in
       let m = g .1 in
@@ -258,12 +257,12 @@ past t q h r j e go =
     omega arith
 
 -- every place that is reached is one of the rule's, or its end
-reached : (t : Tree) {q h : ℕ} → Walks (translation t) 0 8 q h → Inside t 0 8 q h ⊎ Spot (0 + long t) 8 q h
+pub reached : (t : Tree) {q h : ℕ} → Walks (translation t) 0 8 q h → Inside t 0 8 q h ⊎ Spot (0 + long t) 8 q h
 reached t here = inl (begins t 0 8 0 8 (record { place = refl; high = refl }))
 reached t (more {q} {k} {r} {j} w go) = on (reached t w)
   where
     on : Inside t 0 8 q k ⊎ Spot (0 + long t) 8 q k → Inside t 0 8 r j ⊎ Spot (0 + long t) 8 r j
-    on (inl i) = steps (translation t) q k r j go t fieldSlots 0 8 (lies (translation t)) i .1
+    on (inl i) = stays (translation t) q k r j go t fieldSlots 0 8 (lies (translation t)) i .1
     on (inr e) = absurd (past t q k r j e go)
 
 pub keeps : KeepsHeight
@@ -279,5 +278,18 @@ pub ahead : GoesAhead
 ahead t q h r k w go = on (reached t w)
   where
     on : Inside t 0 8 q h ⊎ Spot (0 + long t) 8 q h → q < r
-    on (inl i) = steps (translation t) q h r k go t fieldSlots 0 8 (lies (translation t)) i .0
+    on (inl i) = stays (translation t) q h r k go t fieldSlots 0 8 (lies (translation t)) i .0
     on (inr e) = absurd (past t q h r k e go)
+
+counted : (t : Tree) {q h : ℕ} (w : Walks (translation t) 0 8 q h) → steps w ≤ q
+counted t here = omega arith
+counted t (more {q} {k} {r} {j} w go) =
+    let e = counted t w in
+    let f = ahead t q k r j w go in
+    omega arith
+
+pub brief : IsBrief
+brief t q h w =
+    let e = counted t w in
+    let f = keeps t q h w in
+    omega arith

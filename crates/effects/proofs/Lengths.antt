@@ -1,16 +1,15 @@
 -- How many words a tree becomes, and where they lie in the whole.
-use Prim.Native.Nat.{ℕ, zero, suc, _+_, _*_, _≤_, _<_, max}
+use Prim.Native.Nat.{ℕ, _+_, _*_, _≤_, _<_}
 use mathlib.Core.List.{List, [], _∷_, _++_, append-assoc}
-use mathlib.Core.Path.{_≡_, refl, sym, ap, subst, _∙_}
+use mathlib.Core.Path.{_≡_, refl, subst}
 use native.Mathlib.Omega.{arith}
 use lib.ListN.{length, length-append}
 use Rattle.std.specs.Finite.{nth}
-use Rattle.std.specs.declared.option.Option.{Option}
-use Rattle.std.specs.declared.option.Option.the-variants.{Some, None}
+use Rattle.std.specs.declared.option.Option.the-variants.{Some}
 use Rattle.bytecode.specs.declared.instruction.Instruction.{Instruction}
-use Rattle.language.specs.Code.{Slot, bound, waiting, code, long, tall, translation, fieldSlots}
+use Rattle.language.specs.Code.{Slot, bound, waiting, code, long, tall, fieldSlots}
 use Rattle.language.specs.Tree.{Tree, number, truth, name, prefix, binary, choose, bind, size}
-use Rattle.effects.specs.Laws.{Short, AreShort}
+use Rattle.effects.specs.Laws.{AreShort}
 
 pub length-code : (s : List Slot) (t : Tree) → length (code s t) ≡ long t
 length-code s (number k x) = refl

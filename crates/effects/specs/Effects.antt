@@ -6,7 +6,6 @@ use mathlib.Core.Logic.{_⊎_}
 use mathlib.Core.Path.{_≡_}
 use Rattle.std.specs.Finite.{nth}
 use Rattle.std.specs.declared.option.Option.the-variants.{Some}
-use Rattle.bytecode.specs.declared.argument.Argument.{Argument}
 use Rattle.bytecode.specs.declared.instruction.Instruction.{Instruction}
 use Rattle.bytecode.specs.declared.instruction.Instruction.the-variants.{Push, Addi, Eqi, Ori, Consti, Pop, Acc, Popi, Branch, Branchif, Assign, Multi, Leqi}
 
@@ -41,6 +40,22 @@ given (Branchif k) = 0
 given (Assign k) = 0
 given Multi = 0
 given Leqi = 0
+
+-- how many it must find there: a word that is read or overwritten, with all above it, and each that is taken off
+abbrev pub needed : Instruction → ℕ
+needed Push = 0
+needed Addi = 1
+needed Eqi = 1
+needed Ori = 1
+needed (Consti k) = 0
+needed Pop = 1
+needed (Acc k) = k + 1
+needed (Popi k) = k
+needed (Branch k) = 0
+needed (Branchif k) = 0
+needed (Assign k) = k + 1
+needed Multi = 1
+needed Leqi = 1
 
 -- the height behind an instruction
 abbrev pub after : Instruction → ℕ → ℕ
@@ -78,3 +93,7 @@ pub record Leads (words : List Instruction) (p h q k : ℕ) : Type 0 where
 pub data Walks (words : List Instruction) (p h : ℕ) : ℕ → ℕ → Type 0 where
   here : Walks words p h p h
   more : {q k r j : ℕ} → Walks words p h q k → Leads words q k r j → Walks words p h r j
+
+abbrev pub steps : {words : List Instruction} {p h q k : ℕ} → Walks words p h q k → ℕ
+steps here = 0
+steps (more w go) = steps w + 1

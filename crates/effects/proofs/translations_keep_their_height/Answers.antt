@@ -1,5 +1,6 @@
-use Rattle.effects.proofs.Heights.{keeps, ahead}
+use Rattle.effects.proofs.Heights.{keeps, ahead, brief}
+use Rattle.effects.proofs.Onward.{goes-on}
 use Rattle.effects.proofs.translations_keep_their_height.Needs as need
 
 pub returns : need.returns
-returns c = record { height = keeps; ahead = ahead }
+returns c = record { height = keeps; ahead = ahead; brief = brief; on = goes-on }
