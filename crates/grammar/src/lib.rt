@@ -29,7 +29,8 @@ pub fn texts_stand()
     ensures refused { λ _. ⌜ TextRefused ⌝ }
 {}
 
-/// The same for a text that is read into a table: it is read if and only if it stands for a tree, and text and tree are not too long.
+/// The same for a text that is read into a table: it is read if and only if it stands for a tree, and text and tree are
+/// not too long.
 pub fn reading_stands()
     ensures sound { λ _. ⌜ ReadingSound ⌝ }
     ensures complete { λ _. ⌜ ReadingComplete ⌝ }
