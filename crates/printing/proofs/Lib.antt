@@ -1,0 +1,4 @@
+pub mod Lexing
+pub mod Words
+pub mod Deriving
+pub mod Examples
