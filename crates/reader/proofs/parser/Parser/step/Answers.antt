@@ -1,6 +1,6 @@
 use mathlib.Core.Path.{sym, subst}
 use Rattle.language.specs.Fold.{duly}
-use Rattle.reader.specs.Lexing.{plain}
+use Rattle.lexer.specs.Lexing.{plain}
 use Rattle.reader.specs.Steps.{view, Stepped}
 use Rattle.reader.proofs.Steps.{moved-stepped}
 use Rattle.reader.proofs.parser.Parser.step.Needs as need
