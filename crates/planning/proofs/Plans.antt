@@ -5,6 +5,7 @@ use mathlib.Core.List.{List, _++_}
 use mathlib.Core.Path.{_≡_, refl, sym, ap, subst, _∙_}
 use lib.ListN.{length, take, drop}
 use Rattle.std.proofs.shelf.Lists.{take-at}
+use Rattle.std.specs.Results.{Cases}
 use Rattle.std.specs.declared.result.Result.{Result}
 use Rattle.std.specs.declared.result.Result.the-variants.{Ok, Err}
 use Rattle.refusal.specs.declared.Refusal.{Refusal}
@@ -52,3 +53,7 @@ module _ (room : ℕ) (text : List ℕ) where
 -- the refusal of the reading is the one that is passed on
 pub passed-on : {X : Type 0} (R : Result (List Entry) Refusal) (r : Result X Refusal) (d e f : Refusal) → R ≡ Err d → R ≡ Err e → r ≡ Err f → f ≡ d → r ≡ Err e
 passed-on R r d e f was is out same = let h : d ≡ e = cc in out ∙ ap Err (same ∙ h)
+
+-- what is asked of an answer alone holds of a refusal
+pub at-refusal : {X Y : Type 0} (r : Result X Y) (e : Y) (P : X → Type 0) → r ≡ Err e → Cases r P (λ y. Unit {0})
+at-refusal r e P is = subst (λ x. Cases x P (λ y. Unit {0})) (sym is) tt

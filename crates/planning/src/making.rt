@@ -13,6 +13,7 @@ use typing::judge;
 ghost use Prim.Native.Nat.{_≤_, min};
 ghost use mathlib.Core.Path.{_≡_};
 ghost use lib.ListN.{length};
+ghost use Rattle.std.specs.Results.{Cases};
 ghost use Rattle.std.specs.declared.result.Result.the-variants.{Err};
 ghost use Rattle.refusal.specs.declared.Refusal.{Refusal};
 ghost use Rattle.grammar.specs.Laws.{Means};
@@ -23,7 +24,8 @@ ghost use Rattle.planning.specs.Plans.{Planned};
 
 // Judges a rule, translates it into the code, and lists the code in the output.
 fn list_rule(rule: Rule<'_>, code: &mut [u8], output: &mut [u8]) -> Result<Plan, Refusal>
-    ensures { λ r. ⌜ ((t : Tree) → now (rule .entry .entries) ≡ flatten t → Planned (roomIn (now (code .entry))) (length (now (output .entry))) t r) ⌝ }
+    ensures planned { λ r. ⌜ ((t : Tree) → now (rule .entry .entries) ≡ flatten t → Planned (roomIn (now (code .entry))) (length (now (output .entry))) t r) ⌝ }
+    ensures fits { λ r. ⌜ Cases r (λ p. p .listing ≤ length (now (output .entry))) (λ _. Unit {0}) ⌝ }
 {
     let gives = judge(rule)?;
     let mut memory = Flat::new(code);
@@ -43,6 +45,7 @@ pub fn plan(
     ensures table { λ _. ⌜ now (table .exit) ≡ leaves (now (table .entry)) (reading (length (now (table .entry))) (now (text .entry))) ⌝ }
     ensures unread { λ r. ⌜ ((e : Refusal) → reading (length (now (table .entry))) (now (text .entry)) ≡ Err e → r ≡ Err e) ⌝ }
     ensures planned { λ r. ⌜ ((t : Tree) → Means (now (text .entry)) t → length (now (text .entry)) ≤ 4096 → size t ≤ min (length (now (table .entry))) 512 → Planned (roomIn (now (code .entry))) (length (now (output .entry))) t r) ⌝ }
+    ensures fits { λ r. ⌜ Cases r (λ p. p .listing ≤ length (now (output .entry))) (λ _. Unit {0}) ⌝ }
 {
     let count = read(text, table)?;
     let rule = Rule {

@@ -1,9 +1,10 @@
+use Prim.Native.Nat.{_≤_}
 use mathlib.Core.Path.{_≡_, sym, ap, _∙_}
 use lib.ListN.{length}
 use Rattle.std.proofs.shelf.Results.{err-from-errBy}
 use Rattle.std.specs.declared.result.Result.the-variants.{Ok, Err}
 use Rattle.language.specs.Reading.{reading}
-use Rattle.planning.proofs.Plans.{took, refused, few, formed, the-table, no-tree, not-both, passed-on}
+use Rattle.planning.proofs.Plans.{took, refused, few, formed, the-table, no-tree, not-both, passed-on, at-refusal}
 use Rattle.planning.proofs.making.plan.Needs as need
 
 pub returns-in-Break-count : need.returns-in-Break-count
@@ -16,6 +17,7 @@ returns-in-Break-count c =
       table = c .read .ensures .table;
       unread = λ e h. passed-on (reading room text) (c .from-residual .result) _ e _ was h (p .1) (p .2);
       planned = λ t m short fits. absurd (no-tree room text t _ m short fits was);
+      fits = at-refusal (c .from-residual .result) _ (λ q. q .listing ≤ length (c .args .output .now)) (p .1);
     }
 
 pub ghost-rule : need.ghost-rule
@@ -33,5 +35,6 @@ returns c =
     record {
       table = c .read .ensures .table;
       unread = λ e h. absurd (not-both room text _ e was h);
-      planned = λ t m short fits. c .list-rule .ensures t (the-table room text t _ m short fits was);
+      planned = λ t m short fits. c .list-rule .ensures .planned t (the-table room text t _ m short fits was);
+      fits = c .list-rule .ensures .fits;
     }
