@@ -1,0 +1,5 @@
+pub mod Typed
+pub mod Places
+pub mod Reached
+pub mod Simulation
+pub mod Laws

@@ -1,0 +1,5 @@
+use Rattle.simulation.proofs.Laws.{computes}
+use Rattle.simulation.proofs.translations_compute_their_worth.Needs as need
+
+pub returns : need.returns
+returns g c = λ ops. computes ops
