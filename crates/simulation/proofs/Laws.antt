@@ -1,7 +1,7 @@
 -- The law from the simulation.
 use Prim.Native.Nat.{ℕ, zero, suc, _+_, _-_, _<_, _≤_}
 use mathlib.Core.Bool.{Bool, true, false}
-use mathlib.Core.List.{List, [], _∷_, map}
+use mathlib.Core.List.{List, [], _∷_, _++_, map}
 use mathlib.Core.Path.{_≡_, refl, sym, ap, subst, _∙_}
 use native.Mathlib.Omega.{arith}
 use lib.ListN.{length, take}
@@ -50,12 +50,12 @@ closes ops law t a acc st fs budget enough (over i) (lt, h) =
     let ws = wordsOf t in
     let m : budget ≡ h .steps + suc (budget - h .steps - 1) = omega (arith, h .few) in
     let z : 0 + placed t i ≡ placed t i = omega arith in
-    let s = state (0 + placed t i) (h .hand) (h .stack) (h .after) (0 + h .steps) in
+    let s = state (0 + placed t i) (h .hand) (h .above ++ st) (h .after) (0 + h .steps) in
     let e : runs ops (length ws) (fetch ws) budget (state 0 acc st fs 0) ≡ ended s (Some (Overflow (0 + placed t i))) =
     ap (λ b. runs ops (length ws) (fetch ws) b (state 0 acc st fs 0)) m
     ∙ runs-reaches ops (length ws) (fetch ws) (past-end ws) (h .steps) (suc (budget - h .steps - 1)) (state 0 acc st fs 0) s (h .comes)
     ∙ runs-stop ops (length ws) (fetch ws) (past-end ws) (budget - h .steps - 1) (0 + placed t i) s (h .stops) in
-    (0 + h .steps, h .hand, h .stack, h .after, (lt, omega (arith, h .few), e ∙ ap (λ q. ended (state q (h .hand) (h .stack) (h .after) (0 + h .steps)) (Some (Overflow q))) z))
+    (0 + h .steps, h .hand, h .above, h .after, (lt, omega (arith, h .few), h .room, e ∙ ap (λ q. ended (state q (h .hand) (h .above ++ st) (h .after) (0 + h .steps)) (Some (Overflow q))) z))
 closes ops law t a acc st fs budget enough unbound h = elim h [ ]
 
 pub computes : {W : Type 0} (ops : Ops W) → ComputesIn ops

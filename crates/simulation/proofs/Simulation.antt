@@ -1,11 +1,11 @@
 -- The simulation: the code of a tree, at any place of any code, on any stack, does what the tree is worth.
 use Prim.Native.Nat.{ℕ, zero, suc, _+_, _-_, _<_, _≤_, max}
 use mathlib.Core.Bool.{Bool, true, false, cond, not, _&&_, _||_}
-use mathlib.Core.List.{List, [], _∷_, _++_}
+use mathlib.Core.List.{List, [], _∷_, _++_, append-assoc}
 use mathlib.Core.Path.{_≡_, refl, sym, ap, subst, _∙_}
 use native.Mathlib.Omega.{arith}
 use lib.Dec.{leb}
-use lib.ListN.{length, drop, length-drop}
+use lib.ListN.{length, drop, length-drop, length-append}
 use Rattle.std.specs.Finite.{nth}
 use Rattle.std.proofs.shelf.Tests.{cond-true, cond-false, le-leb, lt-ltb, le-ltb}
 use Rattle.std.specs.declared.option.Option.{Option}
@@ -96,15 +96,16 @@ module _ {W : Type 0} (ops : Ops W) (law : Lawful ops) (end : ℕ) (get : ℕ �
     pub fits : good v
     pub comes : Comes ops end get past steps p acc st fs n (p + len) v st after
 
-  -- after fewer than len steps the machine stops at q for an overflow
+  -- after fewer than len steps the machine stops at q for an overflow, and the stack is as it was but for words above
   pub record Stopped (p : ℕ) (acc : W) (st fs : List W) (n len q : ℕ) : Type 0 where
     pub steps : ℕ
     pub few : steps < len
     pub hand : W
-    pub stack : List W
+    pub above : List W
     pub after : List W
-    pub comes : Comes ops end get past steps p acc st fs n q hand stack after
-    pub stops : step ops end get (state q hand stack after (n + steps)) ≡ Err (Overflow q)
+    pub room : length above + length after ≡ length fs
+    pub comes : Comes ops end get past steps p acc st fs n q hand (above ++ st) after
+    pub stops : step ops end get (state q hand (above ++ st) after (n + steps)) ≡ Err (Overflow q)
 
   abbrev pub Sim : ℕ → W → List W → List W → ℕ → ℕ → ℕ → (ℕ → ℕ) → (W → Type 0) → Worth W → Type 0
   Sim p acc st fs n len sz pl good (word v) = Gave p acc st fs n len good v
@@ -113,21 +114,23 @@ module _ {W : Type 0} (ops : Ops W) (law : Lawful ops) (end : ℕ) (get : ℕ �
 
   stopped-so : (p : ℕ) (acc : W) (st fs : List W) (n len len′ q q′ : ℕ) → len ≤ len′ → q ≡ q′ → Stopped p acc st fs n len q → Stopped p acc st fs n len′ q′
   stopped-so p acc st fs n len len′ q q′ le e h =
-      subst (λ x. Stopped p acc st fs n len′ x) e (record { steps = h .steps; few = omega (arith, h .few); hand = h .hand; stack = h .stack; after = h .after; comes = h .comes; stops = h .stops })
+      subst (λ x. Stopped p acc st fs n len′ x) e (record { steps = h .steps; few = omega (arith, h .few); hand = h .hand; above = h .above; after = h .after; room = h .room; comes = h .comes; stops = h .stops })
 
-  stopped-after : (k p : ℕ) (acc : W) (st fs : List W) (n r : ℕ) (x : W) (su gs : List W) (len len′ q q′ : ℕ) → k + len ≤ len′ → q ≡ q′ →
-      Comes ops end get past k p acc st fs n r x su gs → Stopped r x su gs (n + k) len q → Stopped p acc st fs n len′ q′
-  stopped-after k p acc st fs n r x su gs len len′ q q′ le e c h =
+  stopped-after : (k p : ℕ) (acc : W) (st fs : List W) (n r : ℕ) (x : W) (ws gs : List W) (len len′ q q′ : ℕ) → k + len ≤ len′ → q ≡ q′ → length ws + length gs ≡ length fs →
+      Comes ops end get past k p acc st fs n r x (ws ++ st) gs → Stopped r x (ws ++ st) gs (n + k) len q → Stopped p acc st fs n len′ q′
+  stopped-after k p acc st fs n r x ws gs len len′ q q′ le e room c h =
       let m : n + k + h .steps ≡ n + (k + h .steps) = omega arith in
+      let f : h .above ++ (ws ++ st) ≡ (h .above ++ ws) ++ st = sym (append-assoc (h .above) ws st) in
       subst (λ z. Stopped p acc st fs n len′ z) e
       (record {
         steps = k + h .steps;
         few = omega (arith, h .few);
         hand = h .hand;
-        stack = h .stack;
+        above = h .above ++ ws;
         after = h .after;
-        comes = comes-join ops end get past k (h .steps) p acc st fs n r x su gs q (h .hand) (h .stack) (h .after) c (h .comes);
-        stops = subst (λ i. step ops end get (state q (h .hand) (h .stack) (h .after) i) ≡ Err (Overflow q)) m (h .stops);
+        room = omega (arith, length-append (h .above) ws, h .room, room);
+        comes = subst (λ u. Comes ops end get past (k + h .steps) p acc st fs n q (h .hand) u (h .after)) f (comes-join ops end get past k (h .steps) p acc st fs n r x (ws ++ st) gs q (h .hand) (h .above ++ (ws ++ st)) (h .after) c (h .comes));
+        stops = subst (λ i. step ops end get (state q (h .hand) ((h .above ++ ws) ++ st) (h .after) i) ≡ Err (Overflow q)) m (subst (λ u. step ops end get (state q (h .hand) u (h .after) (n + k + h .steps)) ≡ Err (Overflow q)) f (h .stops));
       })
 
   -- the last instruction of a node, which takes x off the stack
@@ -155,7 +158,7 @@ module _ {W : Type 0} (ops : Ops W) (law : Lawful ops) (end : ℕ) (get : ℕ �
       }
   last p acc st fs n len sz sz′ q pl good k x y gs (over j) few to lt at room c e =
       let z : q ≡ p + pl j = at ∙ ap (λ i. p + pl i) (sym (e .0)) in
-      (omega (arith, e .0), subst (λ r. Stopped p acc st fs n len r) z (record { steps = k; few = few; hand = y; stack = x ∷ st; after = gs; comes = c; stops = e .1 }))
+      (omega (arith, e .0), subst (λ r. Stopped p acc st fs n len r) z (record { steps = k; few = few; hand = y; above = x ∷ []; after = gs; room = omega (arith, room); comes = c; stops = e .1 }))
   last p acc st fs n len sz sz′ q pl good k x y gs unbound few to lt at room c e = elim e [ ]
 
   module _ (p : ℕ) (acc : W) (st fs : List W) (n la lb sa sb : ℕ) (pa pb pl : ℕ → ℕ) (at : Two la lb sa sb pa pb pl) (fa fb good : W → Type 0) where
@@ -171,7 +174,7 @@ module _ {W : Type 0} (ops : Ops W) (law : Lawful ops) (end : ℕ) (get : ℕ �
         (e y (n + (k + h .steps)) (h .after) (h .fits))
     two-second k x gs (over i) f few room c (lt, h) e =
         let q : p + la + 1 + pb i ≡ p + pl (sa + i) = omega (arith, at .other i lt) in
-        (omega arith, stopped-after k p acc st fs n (p + la + 1) x (x ∷ st) gs lb (la + 1 + lb + 1) (p + la + 1 + pb i) (p + pl (sa + i)) (omega arith) q c h)
+        (omega arith, stopped-after k p acc st fs n (p + la + 1) x (x ∷ []) gs lb (la + 1 + lb + 1) (p + la + 1 + pb i) (p + pl (sa + i)) (omega arith) q (omega (arith, room)) c h)
     two-second k x gs unbound f few room c h e = elim h [ ]
 
     -- a node of two parts: the word of the first is pushed, and an instruction joins it with that of the second
@@ -228,7 +231,7 @@ module _ {W : Type 0} (ops : Ops W) (law : Lawful ops) (end : ℕ) (get : ℕ �
         }
     chosen k x gs (over i) few room c (lt, h) =
         let q : p + lc + 1 + lb + 1 + pa i ≡ p + pl (sc + i) = omega (arith, at .taken i lt) in
-        (omega arith, stopped-after k p acc st fs n (p + lc + 1 + lb + 1) x st gs la (lc + 1 + lb + 1 + la) (p + lc + 1 + lb + 1 + pa i) (p + pl (sc + i)) (omega arith) q c h)
+        (omega arith, stopped-after k p acc st fs n (p + lc + 1 + lb + 1) x [] gs la (lc + 1 + lb + 1 + la) (p + lc + 1 + lb + 1 + pa i) (p + pl (sc + i)) (omega arith) q (omega (arith, room)) c h)
     chosen k x gs unbound few room c h = elim h [ ]
 
     otherwise : (k : ℕ) (x : W) (gs : List W) (w : Worth W) → k ≤ lc + 1 → length gs ≡ length fs → Comes ops end get past k p acc st fs n (p + lc + 1) x st gs →
@@ -246,7 +249,7 @@ module _ {W : Type 0} (ops : Ops W) (law : Lawful ops) (end : ℕ) (get : ℕ �
         }
     otherwise k x gs (over i) few room c j (lt, h) =
         let q : p + lc + 1 + pb i ≡ p + pl (sc + sa + i) = omega (arith, at .left i lt) in
-        (omega arith, stopped-after k p acc st fs n (p + lc + 1) x st gs lb (lc + 1 + lb + 1 + la) (p + lc + 1 + pb i) (p + pl (sc + sa + i)) (omega arith) q c h)
+        (omega arith, stopped-after k p acc st fs n (p + lc + 1) x [] gs lb (lc + 1 + lb + 1 + la) (p + lc + 1 + pb i) (p + pl (sc + sa + i)) (omega arith) q (omega (arith, room)) c h)
     otherwise k x gs unbound few room c j h = elim h [ ]
 
     module _ (test : get (p + lc) ≡ Some (Branchif (plus (lb + 2)), p + lc + 1)) (jump : get (p + lc + 1 + lb) ≡ Some (Branch (plus (la + 1)), p + lc + 1 + lb + 1))

@@ -1,7 +1,7 @@
 -- A rule's code, run on the machine, does what the rule is worth.
 use Prim.Native.Nat.{ℕ, _+_, _<_, _≤_}
 use mathlib.Core.Bool.{Bool, true, false, _&&_}
-use mathlib.Core.List.{List, map}
+use mathlib.Core.List.{List, _++_, map}
 use mathlib.Core.Path.{_≡_}
 use lib.ListN.{length, take}
 use Rattle.std.specs.declared.option.Option.the-variants.{Some, None}
@@ -35,12 +35,13 @@ wordsOf t = map written (translation t)
 
 -- How a run of the rule t of the type a ends, by what the rule is worth. It began with the words st above the base, the top
 -- first, and the unused words free. With a word: at the end of the code, in at most as many steps as the code has words,
--- and the words above the base are as they were. With an overflow: by that refusal, at the place of the node's word.
+-- and the words above the base are as they were. With an overflow: by that refusal, at the place of the node's word,
+-- and the words above the base are as they were but for words on top of them.
 abbrev pub Closes : {W : Type 0} → Ops W → Tree → ValueType → List W → List W → Worth W → Ended W → Type 0
 Closes ops t a st free (word v) e =
     (k : ℕ) × (after : List _) × ((k ≤ long t) × (length after ≡ length free) × Fits ops a v × (e ≡ ended (state (long t) v st after k) None))
 Closes ops t a st free (over i) e =
-    (k : ℕ) × (hand : _) × (stack : List _) × (after : List _) × ((i < size t) × (k < long t) × (e ≡ ended (state (placed t i) hand stack after k) (Some (Overflow (placed t i)))))
+    (k : ℕ) × (hand : _) × (above : List _) × (after : List _) × ((i < size t) × (k < long t) × (length above + length after ≡ length free) × (e ≡ ended (state (placed t i) hand (above ++ st) after k) (Some (Overflow (placed t i)))))
 Closes ops t a st free unbound e = ⊥
 
 -- Every well typed rule, on any stack whose eight top words are the fields, with room for its height and a budget of its
