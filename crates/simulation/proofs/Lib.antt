@@ -3,3 +3,4 @@ pub mod Places
 pub mod Reached
 pub mod Simulation
 pub mod Laws
+pub mod Calls
