@@ -1,7 +1,7 @@
 -- What a caller is told, from the law.
-use Prim.Native.Nat.{ℕ, zero, suc, _+_, _-_, _<_, _≤_}
-use mathlib.Core.Bool.{Bool, true, false, cond, _&&_}
-use mathlib.Core.List.{List, [], _∷_, _++_, reverse, append-assoc}
+use Prim.Native.Nat.{ℕ, _+_, _≤_}
+use mathlib.Core.Bool.{Bool, true, false, _&&_}
+use mathlib.Core.List.{List, _++_, reverse, append-assoc}
 use mathlib.Core.Path.{_≡_, refl, sym, ap, subst, _∙_}
 use native.Mathlib.Omega.{arith}
 use lib.Dec.{ltb}
@@ -10,24 +10,21 @@ use lib.ListN.{length, take, drop, length-append, length-drop}
 use Rattle.std.proofs.shelf.Lists.{reverse-append, reverse-reverse, take-append-drop, take-take, take-at, length-take-le, length-reverse}
 use Rattle.std.proofs.shelf.Tests.{cond-false, le-ltb}
 use Rattle.std.specs.Orderings.{Decides}
-use Rattle.std.specs.declared.option.Option.{Option}
-use Rattle.std.specs.declared.option.Option.the-variants.{Some, None}
+use Rattle.std.specs.declared.option.Option.the-variants.{Some}
 use Rattle.std.specs.declared.result.Result.{Result}
 use Rattle.std.specs.declared.result.Result.the-variants.{Ok, Err}
 use Rattle.arithmetic.specs.Words.{Ops, naught, unit, truth}
 use Rattle.evaluation.specs.Worth.{Worth, word, over, unbound, worth, placed}
-use Rattle.language.specs.Code.{long, tall}
-use Rattle.language.specs.Tree.{Tree, size}
+use Rattle.language.specs.Code.{tall}
+use Rattle.language.specs.Tree.{Tree}
 use Rattle.language.specs.declared.operator.ValueType.{ValueType}
-use Rattle.machine.specs.Runs.{Ended, ended, answer, left, held, ran, answered, stackAfter}
-use Rattle.machine.specs.Steps.{State, state}
+use Rattle.machine.specs.Runs.{Ended, answer, left, held, ran, answered, stackAfter}
 use Rattle.machine.specs.declared.registers.Finished.{Finished}
 use Rattle.machine.specs.declared.registers.Halt.{Halt}
 use Rattle.machine.proofs.Held.{length-held}
-use Rattle.refusal.specs.declared.Refusal.{Refusal}
 use Rattle.refusal.specs.declared.Refusal.the-variants.{Overflow}
-use Rattle.simulation.specs.Law.{Lawful, Fits, wordsOf, Closes}
-use Rattle.simulation.specs.Answered.{Says, Answered, AnswersIn}
+use Rattle.simulation.specs.Law.{Lawful, wordsOf, Closes}
+use Rattle.simulation.specs.Answered.{Says, AnswersIn}
 use Rattle.simulation.proofs.Laws.{computes}
 
 says : {W : Type 0} (ops : Ops W) (t : Tree) (a : ValueType) (st fs : List W) (w : Worth W) (e : Ended W) → Closes ops t a st fs w e → Says ops t a w (answer e)

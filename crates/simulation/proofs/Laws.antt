@@ -1,27 +1,25 @@
 -- The law from the simulation.
-use Prim.Native.Nat.{ℕ, zero, suc, _+_, _-_, _<_, _≤_}
-use mathlib.Core.Bool.{Bool, true, false}
+use Prim.Native.Nat.{ℕ, suc, _+_, _-_, _≤_}
 use mathlib.Core.List.{List, [], _∷_, _++_, map}
-use mathlib.Core.Path.{_≡_, refl, sym, ap, subst, _∙_}
+use mathlib.Core.Path.{_≡_, refl, ap, subst, _∙_}
 use native.Mathlib.Omega.{arith}
 use lib.ListN.{length, take}
 use Rattle.std.specs.declared.option.Option.the-variants.{Some, None}
-use Rattle.std.specs.declared.result.Result.the-variants.{Ok}
 use Rattle.arithmetic.specs.Words.{Ops}
 use Rattle.bytecode.specs.Words.{written}
 use Rattle.evaluation.specs.Worth.{Worth, word, over, unbound, worth, placed}
-use Rattle.language.specs.Code.{fieldSlots, long, tall, translation}
+use Rattle.language.specs.Code.{fieldSlots, long, translation}
 use Rattle.language.specs.Tree.{Tree, size}
-use Rattle.language.specs.Typing.{fields, typeOf}
+use Rattle.language.specs.Typing.{fields}
 use Rattle.language.specs.declared.operator.ValueType.{ValueType}
-use Rattle.machine.specs.Runs.{Ended, ended, runs}
-use Rattle.machine.specs.Steps.{State, state, fetch}
+use Rattle.machine.specs.Runs.{ended, runs}
+use Rattle.machine.specs.Steps.{state, fetch}
 use Rattle.refusal.specs.declared.Refusal.the-variants.{Overflow}
 use Rattle.simulation.specs.Law.{Lawful, Fits, wordsOf, Closes, ComputesIn}
 use Rattle.simulation.proofs.Places.{length-code, code-whole, past-end}
 use Rattle.simulation.proofs.Reached.{runs-reaches, runs-end, runs-stop}
 use Rattle.simulation.proofs.Simulation.{Sim, simulated}
-use Rattle.simulation.proofs.Typed.{well, values, values-top, agree-numbers}
+use Rattle.simulation.proofs.Typed.{well, values-top, agree-numbers}
 
 length-map : {X Y : Type 0} (f : X → Y) (xs : List X) → length (map f xs) ≡ length xs
 length-map f [] = refl

@@ -1,23 +1,21 @@
 -- Steps one after another.
-use Prim.Native.Nat.{ℕ, zero, suc, _+_, _-_, _<_, _≤_}
-use mathlib.Core.Bool.{Bool, true, false, cond}
+use Prim.Native.Nat.{ℕ, zero, suc, _+_, _<_, _≤_}
+use mathlib.Core.Bool.{false}
 use mathlib.Core.List.{List, [], _∷_}
 use mathlib.Core.Path.{_≡_, refl, sym, ap, subst, _∙_}
 use native.Mathlib.Omega.{arith}
-use lib.Dec.{leb, eqb}
+use lib.Dec.{eqb}
 use lib.ListN.{length, drop}
 use Rattle.std.proofs.shelf.Tests.{cond-true, cond-false, ne-eqb, eq-eqb, le-leb}
 use Rattle.std.specs.declared.option.Option.{Option}
 use Rattle.std.specs.declared.option.Option.the-variants.{Some, None}
-use Rattle.std.specs.declared.result.Result.{Result}
 use Rattle.std.specs.declared.result.Result.the-variants.{Ok, Err}
 use Rattle.arithmetic.specs.Words.{Ops}
 use Rattle.bytecode.specs.Words.{plus}
 use Rattle.bytecode.specs.declared.instruction.Instruction.{Instruction}
 use Rattle.bytecode.specs.declared.instruction.Instruction.the-variants.{Push}
-use Rattle.machine.specs.Runs.{Ended, ended, goes, runs}
+use Rattle.machine.specs.Runs.{ended, goes, runs}
 use Rattle.machine.specs.Steps.{State, state, place, step, fetched, performed, went, branched}
-use Rattle.refusal.specs.declared.Refusal.{Refusal}
 use Rattle.refusal.specs.declared.Refusal.the-variants.{BadWord, Overflow}
 
 module _ {W : Type 0} (ops : Ops W) (end : ℕ) (get : ℕ → Option (Instruction × ℕ)) (past : (p : ℕ) → end ≤ p → get p ≡ None) where

@@ -1,16 +1,13 @@
 -- The simulation: the code of a tree, at any place of any code, on any stack, does what the tree is worth.
-use Prim.Native.Nat.{ℕ, zero, suc, _+_, _-_, _<_, _≤_, max}
+use Prim.Native.Nat.{ℕ, suc, _+_, _<_, _≤_}
 use mathlib.Core.Bool.{Bool, true, false, cond, not, _&&_, _||_}
 use mathlib.Core.List.{List, [], _∷_, _++_, append-assoc}
 use mathlib.Core.Path.{_≡_, refl, sym, ap, subst, _∙_}
 use native.Mathlib.Omega.{arith}
-use lib.Dec.{leb}
 use lib.ListN.{length, drop, length-drop, length-append}
-use Rattle.std.specs.Finite.{nth}
 use Rattle.std.proofs.shelf.Tests.{cond-true, cond-false, le-leb, lt-ltb, le-ltb}
 use Rattle.std.specs.declared.option.Option.{Option}
 use Rattle.std.specs.declared.option.Option.the-variants.{Some, None}
-use Rattle.std.specs.declared.result.Result.{Result}
 use Rattle.std.specs.declared.result.Result.the-variants.{Ok, Err}
 use Rattle.arithmetic.specs.Words.{Ops, naught, unit, truth as truthWord}
 use Rattle.bytecode.specs.Words.{plus}
@@ -26,8 +23,7 @@ use Rattle.language.specs.declared.operator.Prefix.{Prefix}
 use Rattle.language.specs.declared.operator.Prefix.the-variants.{Not, Increment}
 use Rattle.language.specs.declared.operator.ValueType.{ValueType}
 use Rattle.language.specs.declared.operator.ValueType.the-variants.{Number, Truth}
-use Rattle.machine.specs.Steps.{State, state, step, performed, landed, became?}
-use Rattle.refusal.specs.declared.Refusal.{Refusal}
+use Rattle.machine.specs.Steps.{state, step, performed, landed, became?}
 use Rattle.refusal.specs.declared.Refusal.the-variants.{Overflow}
 use Rattle.simulation.specs.Law.{Lawful, Fits}
 use Rattle.simulation.proofs.Places.{Two, two-places, Three, three-places, CodeAt, split-code, code-fits}

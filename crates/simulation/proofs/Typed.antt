@@ -1,6 +1,6 @@
 -- What a typed tree has: the types of its parts, and words of these types.
 use Prim.Native.Nat.{ℕ, zero, suc, _+_, _<_, _≤_}
-use mathlib.Core.Bool.{Bool, true, false, cond, not, _&&_, _||_}
+use mathlib.Core.Bool.{Bool, true, false, _&&_}
 use mathlib.Core.List.{List, [], _∷_}
 use mathlib.Core.Path.{_≡_, refl, sym, ap, subst, _∙_}
 use native.Mathlib.Omega.{arith}
@@ -10,14 +10,15 @@ use Rattle.std.specs.declared.option.Option.{Option}
 use Rattle.std.specs.declared.option.Option.the-variants.{Some, None}
 use Rattle.std.specs.declared.result.Result.{Result}
 use Rattle.std.specs.declared.result.Result.the-variants.{Ok, Err}
-use Rattle.arithmetic.specs.Words.{Ops, naught, unit, truth as truthWord}
+use Rattle.arithmetic.specs.Words.{Ops}
+use Rattle.grammar.specs.Grammar.{Bound}
 use Rattle.language.specs.Code.{Slot, bound, waiting, above}
 use Rattle.language.specs.Operators.{rowOf, prefixRowOf}
 use Rattle.language.specs.Tree.{Tree, number, truth, name, prefix, binary, choose, bind}
-use Rattle.language.specs.Typing.{sameType, andThen, fitting, known, typed}
+use Rattle.language.specs.Typing.{fields, sameType, andThen, fitting, known, typed}
 use Rattle.language.specs.declared.operator.ValueType.{ValueType}
 use Rattle.language.specs.declared.operator.ValueType.the-variants.{Number, Truth}
-use Rattle.simulation.specs.Law.{Fits}
+use Rattle.simulation.specs.Law.{Fits, AreBound}
 
 -- the tree has this type under these types of the names, part by part
 abbrev pub Well : List ValueType → Tree → ValueType → Type 0
@@ -91,6 +92,26 @@ well env (choose p t u v) a e =
 well env (bind p t u) a e =
     let r = and-then (typed env t) (λ b. typed (b ∷ env) u) a e in
     (r .0, (well env t (r .0) (r .1 .0), well (r .0 ∷ env) u a (r .1 .1)))
+
+within : (env : List ValueType) (k : ℕ) (a : ValueType) → nth env k ≡ Some a → k < length env
+within [] k a e = let z : _≡_ {A = ℕ} 0 1 = cc in absurd (omega arith)
+within (b ∷ env) zero a e = omega arith
+within (b ∷ env) (suc k) a e = let r = within env k a e in omega arith
+
+-- each name of a typed tree has a binding
+pub well-bound : (env : List ValueType) (t : Tree) (a : ValueType) → Well env t a → Bound (length env) t
+well-bound env (number k p) a w = tt
+well-bound env (truth b p) a w = tt
+well-bound env (name k p) a w = within env k a w
+well-bound env (prefix o p t) a w = well-bound env t (prefixRowOf o .takes) (w .0)
+well-bound env (binary o p t u) a w = (well-bound env t (rowOf o .takes) (w .0), well-bound env u (rowOf o .takes) (w .1 .0))
+well-bound env (choose p t u v) a w = (well-bound env t Truth (w .0), (well-bound env u a (w .1 .0), well-bound env v a (w .1 .1)))
+well-bound env (bind p t u) a w =
+    let n : length (w .0 ∷ env) ≡ length env + 1 = omega arith in
+    (well-bound env t (w .0) (w .1 .0), subst (λ m. Bound m u) n (well-bound (w .0 ∷ env) u a (w .1 .1)))
+
+pub are-bound : AreBound
+are-bound t a e = well-bound fields t a (well fields t a e)
 
 -- the words of the names on a stack, the innermost first
 abbrev pub values : {W : Type 0} → List Slot → List W → List W

@@ -10,13 +10,14 @@ use Rattle.arithmetic.specs.Words.{Ops, naught, unit, truth}
 use Rattle.bytecode.specs.Words.{written}
 use Rattle.bytecode.specs.declared.instruction.Word.{Word}
 use Rattle.evaluation.specs.Worth.{Worth, word, over, unbound, worth, placed}
+use Rattle.grammar.specs.Grammar.{Bound}
 use Rattle.language.specs.Code.{long, tall, translation}
 use Rattle.language.specs.Tree.{Tree, size}
 use Rattle.language.specs.Typing.{typeOf}
 use Rattle.language.specs.declared.operator.ValueType.{ValueType}
 use Rattle.language.specs.declared.operator.ValueType.the-variants.{Number, Truth}
 use Rattle.machine.specs.Runs.{Ended, ended, runs}
-use Rattle.machine.specs.Steps.{State, state, fetch}
+use Rattle.machine.specs.Steps.{state, fetch}
 use Rattle.refusal.specs.declared.Refusal.the-variants.{Overflow}
 
 -- what is asked of the words for 0 and 1: they differ, and their product is that of the numbers
@@ -45,7 +46,7 @@ Closes ops t a st free (over i) e =
 Closes ops t a st free unbound e = ⊥
 
 -- Every well typed rule, on any stack whose eight top words are the fields, with room for its height and a budget of its
--- length. The fields are what the names of the rule stand for, so no run ends otherwise than by what the rule is worth.
+-- length: the run ends by what the rule is worth under the fields, and in no other way.
 abbrev pub ComputesIn : {W : Type 0} → Ops W → Type 0
 ComputesIn ops =
     Lawful ops → (t : Tree) (a : ValueType) → typeOf t ≡ Ok a →
@@ -54,3 +55,7 @@ ComputesIn ops =
 
 abbrev pub Computes : Type 0 → Type 0
 Computes W = (ops : Ops W) → ComputesIn ops
+
+-- each name of a well typed rule has a binding, or is one of the eight fields
+abbrev pub AreBound : Type 0
+AreBound = (t : Tree) (a : ValueType) → typeOf t ≡ Ok a → Bound 8 t
