@@ -1,5 +1,7 @@
 //! Words to calculate with: one interface, and two arithmetics behind it.
 
+#![tactic(auto)]
+
 ghost use Rattle.std.specs.Prelude.{◌≡◌, ℤ, pos, Some, Decides};
 ghost use Rattle.std.specs.Option.{option_map};
 ghost use Rattle.bytecode.specs.declared.argument.Argument.{Argument};

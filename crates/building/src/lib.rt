@@ -1,5 +1,7 @@
 //! From the text of a rule to its code in a memory.
 
+#![tactic(auto)]
+
 ghost use Rattle.std.specs.Prelude.{◌≡◌, length, Some, OnErr};
 ghost use Rattle.building.specs.Built.{Built, Stands};
 ghost use Rattle.building.specs.Rules.{rule_of, unfit, refusal_for};

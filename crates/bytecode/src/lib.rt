@@ -1,5 +1,7 @@
 //! The machine's instructions, and the three-byte words that write them.
 
+#![tactic(auto)]
+
 mod argument;
 mod coding;
 mod instruction;

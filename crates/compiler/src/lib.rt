@@ -1,5 +1,7 @@
 //! Translating a rule: the words of the tree in a table, written to a code memory.
 
+#![tactic(auto)]
+
 mod card;
 mod emit;
 mod layout;

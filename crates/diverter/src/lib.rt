@@ -1,6 +1,8 @@
 //! The box on a sorter's frame: it takes in a rule while the belt stands still, and names a lane for each parcel while
 //! the belt moves.
 
+#![tactic(auto)]
+
 mod belt;
 mod calls;
 mod deciding;

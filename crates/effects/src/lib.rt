@@ -1,5 +1,7 @@
 //! How the words of a rule keep the height of the stack.
 
+#![tactic(auto)]
+
 ghost use Rattle.effects.specs.Laws.{KeepsHeight, GoesAhead, IsBrief, GoesOn, ReachesHeight, IsFed, AreShort};
 
 /// Whichever way the words of a rule are walked, the stack stands between the eight fields and the rule's height, and at

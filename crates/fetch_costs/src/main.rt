@@ -1,6 +1,8 @@
 //! Fills a code memory with 315 words and reads them forward, `fetch_costs [flat|records] [ROUNDS]`, so that the cost of
 //! reading can be counted for each memory; without arguments once for both.
 
+#![tactic(auto)]
+
 use bytecode::Word;
 use memory::{CodeMemory, Flat};
 use records::RecordMemory;

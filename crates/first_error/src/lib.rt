@@ -1,5 +1,7 @@
 //! The first error decides: what stands behind it in a text changes nothing.
 
+#![tactic(auto)]
+
 ghost use Rattle.first_error.specs.Law.{Placed, Decides, ReadingDecides};
 
 /// A text is refused at a token, and the same refusal comes whatever stands behind that token and one byte more.

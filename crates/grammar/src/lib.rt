@@ -1,5 +1,7 @@
 //! The grammar of rules, and that reading keeps it.
 
+#![tactic(auto)]
+
 mod rule;
 
 ghost use Rattle.grammar.specs.Examples.{Examples};

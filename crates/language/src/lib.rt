@@ -1,5 +1,7 @@
 //! The rule language: its operators, the table that holds a tree, and the definitions of what a rule means.
 
+#![tactic(auto)]
+
 mod entry;
 mod frame;
 mod operator;

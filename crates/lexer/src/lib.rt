@@ -1,5 +1,7 @@
 //! The tokens of a rule's text, one after another.
 
+#![tactic(auto)]
+
 mod bytes;
 mod cursor;
 mod next;

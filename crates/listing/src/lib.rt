@@ -1,5 +1,7 @@
 //! Code as text: a line for each word of a code memory.
 
+#![tactic(auto)]
+
 mod lines;
 mod put;
 

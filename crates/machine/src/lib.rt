@@ -1,5 +1,7 @@
 //! The accumulator machine, over any code memory and any arithmetic.
 
+#![tactic(auto)]
+
 mod branches;
 mod kinds;
 mod registers;

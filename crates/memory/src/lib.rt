@@ -1,5 +1,7 @@
 //! Where code is kept: the interface of a code memory, and a memory over handed-over bytes.
 
+#![tactic(auto)]
+
 mod code_memory;
 mod flat;
 

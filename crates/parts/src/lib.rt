@@ -1,5 +1,7 @@
 //! What the last entry of a table is, and where in the table its parts begin.
 
+#![tactic(auto)]
+
 mod cuts;
 mod node;
 

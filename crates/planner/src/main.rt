@@ -1,6 +1,8 @@
 //! `planner [FILE]`: reads one rule, from the file or from standard input, and prints its listing and its card; or says
 //! on standard error why the rule is refused, and where, and ends with status 1.
 
+#![tactic(auto)]
+
 mod pointing;
 mod sentence;
 

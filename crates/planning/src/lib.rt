@@ -1,5 +1,7 @@
 //! The planning kit: a rule's text read, judged, translated and listed, and a refusal explained to a person.
 
+#![tactic(auto)]
+
 mod explaining;
 mod making;
 mod told;

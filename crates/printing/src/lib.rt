@@ -1,5 +1,7 @@
 //! Rules as texts, which read back.
 
+#![tactic(auto)]
+
 ghost use Rattle.printing.specs.Examples.{Examples};
 ghost use Rattle.printing.specs.Printing.{ReadsBack, Distinct};
 

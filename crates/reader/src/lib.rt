@@ -1,5 +1,7 @@
 //! Reads the text of a rule into a caller's table, as a tree in post-order.
 
+#![tactic(auto)]
+
 mod closing;
 mod frames;
 mod kinds;

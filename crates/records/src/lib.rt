@@ -1,5 +1,7 @@
 //! A code memory of 1,024 bytes: 64 records of 16 bytes, of which each belongs to the rule's chain or to the free chain.
 
+#![tactic(auto)]
+
 mod append;
 mod bytes;
 mod clear;

@@ -1,6 +1,8 @@
 //! Why a call gets nothing. Every refusal of the product is a case here, with what it carries; its number, the part
 //! that finds it and its detail are three definitions that all contracts share.
 
+#![tactic(auto)]
+
 ghost use Rattle.std.specs.Prelude.{◌≡◌, Some};
 ghost use Rattle.refusal.specs.Refusals.{number_of, part_of, detail_of, name_of, line_of};
 

@@ -1,6 +1,8 @@
 //! A test: plans each line of standard input as a rule of its own, and prints what comes of it, so that a table of rules
 //! is compared with what is written out by hand.
 
+#![tactic(auto)]
+
 use bytecode::Argument;
 use language::{Entry, Kind, ValueType};
 use planning::{Plan, plan};

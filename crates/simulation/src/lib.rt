@@ -1,5 +1,7 @@
 //! The code of a rule, run on the machine, does what the rule is worth.
 
+#![tactic(auto)]
+
 ghost use Rattle.simulation.specs.Answered.{Answers};
 ghost use Rattle.simulation.specs.Law.{Lawful, Computes, AreBound};
 

@@ -1,5 +1,7 @@
 //! Operations on a code memory, one after another, and what they come to.
 
+#![tactic(auto)]
+
 mod written;
 
 ghost use Rattle.std.specs.Prelude.{◌≡◌, ◌<◌, [], length, take, drop, slice_set};

@@ -6,5 +6,5 @@ use Rattle.bytecode.proofs.coding.decode.Goals as goal
 pub returns-in-Some : goal.returns-in-Some
 returns-in-Some c =
     let long : 3 ≤ length c.args.bytes.now = search rules in
-    let reads = sym c.instruction-of.ensures ∙ c.in-Some.is in
+    let reads = sym c.instruction_of.ensures ∙ c.in-Some.is in
     record { value = decodes _ c.args.bytes.now long reads; only = decodes_only _ c.args.bytes.now long reads }
