@@ -1,7 +1,7 @@
 #!/usr/bin/env python3
 """Respells this repository's own definitions and lemmas: words in snake case, facts in camel case.
 
-usage: python3 tools/respell.py, once, at the top, after the kit's own script has turned the repository.
+usage: python3 tools/respell.py, once and not twice, at the top, after the kit's own script has turned the repository.
 
 RENAMED lists every name that the kit's script left. TURNED lists those that it turned itself: in the must-fail edits,
 which it does not touch, they are turned here. A name behind a dot is a field, and only a field of FIELDS is respelled
@@ -751,7 +751,7 @@ TURNED = {
 PRINTING = {"is_digit": "digit_in_range"}
 
 EDGE_BEFORE = r"(?<![^\s(){}\[\];,·←?λ])"
-EDGE_AFTER = r"(?![^\s(){}\[\];,.])"
+EDGE_AFTER = r"(?![^\s(){}\[\];,.:])"
 STRING = re.compile(r'"(?:[^"\\]|\\.)*"')
 
 

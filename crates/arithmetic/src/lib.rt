@@ -59,9 +59,9 @@ pub trait Arithmetic {
 
     ghost zeros: { ops.times (naught ops) (naught ops) ≡ Some (naught ops) };
 
-    ghost zeroOne: { ops.times (naught ops) (unit ops) ≡ Some (naught ops) };
+    ghost zero_one: { ops.times (naught ops) (unit ops) ≡ Some (naught ops) };
 
-    ghost oneZero: { ops.times (unit ops) (naught ops) ≡ Some (naught ops) };
+    ghost one_zero: { ops.times (unit ops) (naught ops) ≡ Some (naught ops) };
 
     ghost ones: { ops.times (unit ops) (unit ops) ≡ Some (unit ops) };
 }

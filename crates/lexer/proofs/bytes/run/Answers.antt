@@ -12,7 +12,7 @@ returns-then-not-is-in c =
 
 pub loop-i-preserved : goal.loop-i-preserved
 loop-i-preserved c =
-    run_on (belongs c.args.class) c.args.bytes.now c.loop-i.i (search rules) (sym c.is-in.ensures ∙ c.if-not-is-in.false) c.loop-i.invariant
+    run_on (belongs c.args.class) c.args.bytes.now c.loop-i.i (search rules) (sym c.is_in.ensures ∙ c.if-not-is_in.false) c.loop-i.invariant
 
 pub returns : goal.returns
 returns c =

@@ -5,5 +5,5 @@ use Rattle.lexer.proofs.scan.minus_at.Goals as goal
 
 pub returns : goal.returns
 returns c =
-    let e = c.numeral-at-kind.ensures.value ∙ ap (numeral_at true) (take_rest c.args.text.now 1) in
+    let e = c.numeral_at-kind.ensures.value ∙ ap (numeral_at true) (take_rest c.args.text.now 1) in
     record { value = ap longer e; within = search (rules, length-take, length-drop) }

@@ -16,6 +16,6 @@ add-word-requires c =
 pub returns : goal.returns
 returns c =
     let bytes = c.args.bytes.now in
-    let is = c.count-in.ensures in
+    let is = c.count_in.ensures in
     let less : count bytes < 315 = omega arith in
-    appends bytes _ c.args.word c.args.last _ c.requires less c.add-word.ensures.bytes c.add-word.ensures.last
+    appends bytes _ c.args.word c.args.last _ c.requires less c.add_word.ensures.bytes c.add_word.ensures.last

@@ -9,7 +9,7 @@ loop-r-init c = (refl, blank_start)
 pub loop-r-preserved : goal.loop-r-preserved
 loop-r-preserved c =
     let size = c.loop-r.invariant.0 in
-    let is = c.link-free.ensures in
+    let is = c.link_free.ensures in
     (ap length is ∙ (length-set _ _ _ ∙ size), λ k. ap (λ bs. get_or bs k 0) is ∙ blank_more c.loop-r.bytes c.loop-r.r (omega arith) (omega arith) c.loop-r.invariant.1 k)
 
 pub returns : goal.returns

@@ -6,7 +6,7 @@ use Rattle.records.proofs.record_memory.RecordMemory.find.Goals as goal
 pub returns-then-place-count : goal.returns-then-place-count
 returns-then-place-count c =
     let self = c.args.self.now in
-    let is = c.count-in-count.ensures in
+    let is = c.count_in-count.ensures in
     let past : count self.bytes ≤ c.args.place = omega arith in
     record {
       answer = code_past self.bytes c.args.place past;
@@ -18,11 +18,11 @@ returns-then-place-count c =
 pub returns : goal.returns
 returns c =
     let self = c.args.self.now in
-    let is = c.count-in-count.ensures in
-    let at = c.index-of-index.ensures in
+    let is = c.count_in-count.ensures in
+    let at = c.index_of-index.ensures in
     let there : c.args.place < count self.bytes = omega arith in
     record {
-      answer = code_there self.bytes c.args.place c.walk-record.result _ there (c.walk-record.ensures.is ∙ ap (reached self.bytes) at) c.read-word-word.ensures;
+      answer = code_there self.bytes c.args.place c.walk-record.result _ there (c.walk-record.ensures.is ∙ ap (reached self.bytes) at) c.read_word-word.ensures;
       index = at ∙ index_there self.bytes self.cursor.index c.args.place there;
       within = omega arith;
       stands = c.walk-record.ensures.is;
