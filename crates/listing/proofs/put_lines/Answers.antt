@@ -9,12 +9,12 @@ unreachable-requires g c =
     let ws = g.M.CodeMemory.listed c.args.memory.now in
     let count = c.count-place-end.ensures.value in
     let less : c.loop-place.place < length ws = omega arith in
-    not_past ws c.loop-place.place c.at.result less c.at.ensures c.in-default.is
+    not_past ws c.loop-place.place c.at.result less c.at.ensures c.in_default.is
 
-pub returns-in-default-instruction : goal.returns-in-default-instruction
-returns-in-default-instruction g c =
+pub returns-in_default-instruction : goal.returns-in_default-instruction
+returns-in_default-instruction g c =
     let ws = g.M.CodeMemory.listed c.args.memory.now in
-    let bad = so_bad ws c.args.out.now c.loop-place.place _ _ c.in-Some.word c.at.result c.instruction.result c.loop-place.invariant c.at.ensures c.in-Some.is c.instruction.ensures c.in-default-instruction.is in
+    let bad = so_bad ws c.args.out.now c.loop-place.place _ _ c.in-Some.word c.at.result c.instruction.result c.loop-place.invariant c.at.ensures c.in-Some.is c.instruction.ensures c.in_default-instruction.is in
     record { size = sym (ap size_of bad); output = fills_none (listing 0 ws) _ c.args.out.now c.loop-place.out bad }
 
 pub loop-place-preserved : goal.loop-place-preserved
@@ -25,8 +25,8 @@ loop-place-preserved g c =
     c.in-Some.is
     c.instruction.ensures
     c.in-Some-instruction.is
-    (record { out' = c.put-line-end.ensures.out; end' = c.put-line-end.ensures.end })
-    c.put-line-end.ensures.bound
+    (record { out' = c.put_line-end.ensures.out; end' = c.put_line-end.ensures.end })
+    c.put_line-end.ensures.bound
 
 pub returns : goal.returns
 returns g c =

@@ -17,7 +17,7 @@ loop-i-preserved g c =
     let is = get_or_default operations i _ Clear lt in
     let inv = c.loop-i.invariant in
     let did = c.perform-answer.ensures in
-    let put = c.write-answer.ensures in (
+    let put = c.write_answer.ensures in (
       did.same ∙ inv.0,
       one_more room operations i lt _ is _ _ inv.0 inv.1 _ did.after,
       told_more room operations i lt _ is _ _ inv.0 inv.1 c.loop-i.answers _ _ did.answer put inv.2,

@@ -8,14 +8,14 @@ use Rattle.compiler.proofs.Emitted.{emits_at}
 use Rattle.compiler.proofs.Translated.{whole, accepted, no_refusal}
 use Rattle.compiler.proofs.writing.write_code.Goals as goal
 
-pub returns-in-err-emit : goal.returns-in-err-emit
-returns-in-err-emit g c =
+pub returns-in_err-emit : goal.returns-in_err-emit
+returns-in_err-emit g c =
     let es = c.args.entries.now in
     let shape = c.measure-shape.result in
     let room = g.M.CodeMemory.room c.args.memory.now in
-    let free : None ≡ reason_for room shape = c.in-default.ensures ∙ ap (λ x. reason_for x shape) c.capacity.ensures.value in
-    let emitted = emits_at es _ _ _ refl refl c.clear.ensures.same c.in-err-emit.ensures.value in
-    let p = err_from_is_err_and c.from-residual.result c.from-residual.ensures.1 in
+    let free : None ≡ reason_for room shape = c.in_default.ensures ∙ ap (λ x. reason_for x shape) c.capacity.ensures.value in
+    let emitted = emits_at es _ _ _ refl refl c.clear.ensures.same c.in_err-emit.ensures.value in
+    let p = err_from_is_err_and c.from_residual.result c.from_residual.ensures.1 in
     let never : (t : Tree) → es ≡ flatten t → ⊥ = λ t h. no_refusal room shape _ _ t (whole es _ _ room shape _ _ _ c.measure-shape.ensures.value free c.fields-layout.ensures.spots c.fields-layout.ensures.height c.clear.ensures.after emitted t h) in
     record {
       same = c.emit.ensures.same ∙ c.clear.ensures.same;
@@ -30,8 +30,8 @@ returns g c =
     let es = c.args.entries.now in
     let shape = c.measure-shape.result in
     let room = g.M.CodeMemory.room c.args.memory.now in
-    let free : None ≡ reason_for room shape = c.in-default.ensures ∙ ap (λ x. reason_for x shape) c.capacity.ensures.value in
-    let emitted = emits_at es _ _ _ refl refl c.clear.ensures.same c.in-ok-emit.ensures.value in
+    let free : None ≡ reason_for room shape = c.in_default.ensures ∙ ap (λ x. reason_for x shape) c.capacity.ensures.value in
+    let emitted = emits_at es _ _ _ refl refl c.clear.ensures.same c.in_ok-emit.ensures.value in
     let all = whole es _ _ room shape _ _ _ c.measure-shape.ensures.value free c.fields-layout.ensures.spots c.fields-layout.ensures.height c.clear.ensures.after emitted in
     let low = (accepted room shape free).low in
     record {

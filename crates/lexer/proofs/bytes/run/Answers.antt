@@ -3,10 +3,10 @@ use Rattle.lexer.specs.Classes.{belongs}
 use Rattle.lexer.proofs.Runs.{run_on, run_stops, run_ends}
 use Rattle.lexer.proofs.bytes.run.Goals as goal
 
-pub returns-then-not-is-in : goal.returns-then-not-is-in
-returns-then-not-is-in c =
+pub returns-then-not-is_in : goal.returns-then-not-is_in
+returns-then-not-is_in c =
     record {
-      value = run_stops (belongs c.args.class) c.args.bytes.now c.loop-i.i (search rules) (sym c.is-in.ensures ∙ c.if-not-is-in.true) c.loop-i.invariant;
+      value = run_stops (belongs c.args.class) c.args.bytes.now c.loop-i.i (search rules) (sym c.is_in.ensures ∙ c.if-not-is_in.true) c.loop-i.invariant;
       within = search rules;
     }
 

@@ -25,28 +25,28 @@ loop-init c =
       ),
     )
 
-pub returns-in-err-step : goal.returns-in-err-step
-returns-in-err-step c =
+pub returns-in_err-step : goal.returns-in_err-step
+returns-in_err-step c =
     let inv = c.loop.invariant.2 in
     let same = c.loop.invariant.0 in
-    let p = err_from_is_err_and c.from-residual.result c.from-residual.ensures.1 in
+    let p = err_from_is_err_and c.from_residual.result c.from_residual.ensures.1 in
     let within : c.loop.lexer.at ≤ length c.args.text.now = subst (λ xs. c.loop.lexer.at ≤ length xs) same c.loop.lexer.within in
     let is : plain c.next-token.result ≡ lexeme c.args.text.now c.loop.lexer.at = c.next-token.ensures.token ∙ ap (λ xs. lexeme xs c.loop.lexer.at) same in
-    let e = turn_err c.args.text.now c.loop.lexer.at (view c.loop.parser) c.loop.table _ within inv.0 inv.1 inv.2 (plain c.next-token.result) c.step.result _ _ _ is c.step.ensures.step c.in-err-step.was in
+    let e = turn_err c.args.text.now c.loop.lexer.at (view c.loop.parser) c.loop.table _ within inv.0 inv.1 inv.2 (plain c.next-token.result) c.step.result _ _ _ is c.step.ensures.step c.in_err-step.was in
     ap (λ r. paired r c.step.new.table) p.1 ∙ (ap Err p.2 ∙ e)
 
-pub returns-then-is-last : goal.returns-then-is-last
-returns-then-is-last c =
+pub returns-then-is_last : goal.returns-then-is_last
+returns-then-is_last c =
     let inv = c.loop.invariant.2 in
     let same = c.loop.invariant.0 in
     let within : c.loop.lexer.at ≤ length c.args.text.now = subst (λ xs. c.loop.lexer.at ≤ length xs) same c.loop.lexer.within in
     let is : plain c.next-token.result ≡ lexeme c.args.text.now c.loop.lexer.at = c.next-token.ensures.token ∙ ap (λ xs. lexeme xs c.loop.lexer.at) same in
-    turn_last c.args.text.now c.loop.lexer.at (view c.loop.parser) c.loop.table _ within inv.0 inv.1 inv.2 (plain c.next-token.result) c.step.result (view c.step.new.self) c.step.new.table _ is c.step.ensures.step c.in-ok-step.was (sym c.if-is-last.ensures)
+    turn_last c.args.text.now c.loop.lexer.at (view c.loop.parser) c.loop.table _ within inv.0 inv.1 inv.2 (plain c.next-token.result) c.step.result (view c.step.new.self) c.step.new.table _ is c.step.ensures.step c.in_ok-step.was (sym c.if-is_last.ensures)
 
 -- a token that is not the last takes a byte
-moved : (c : goal.Else-is-last) → c.loop.lexer.at < c.next-token.new.self.at
+moved : (c : goal.Else-is_last) → c.loop.lexer.at < c.next-token.new.self.at
 moved c =
-    let l : is_last (lexeme c.loop.lexer.text.now c.loop.lexer.at).kind ≡ false = ap (λ t. is_last t.kind) (sym c.next-token.ensures.token) ∙ sym c.if-is-last.ensures in
+    let l : is_last (lexeme c.loop.lexer.text.now c.loop.lexer.at).kind ≡ false = ap (λ t. is_last t.kind) (sym c.next-token.ensures.token) ∙ sym c.if-is_last.ensures in
     let m = token_moves c.loop.lexer.text.now c.loop.lexer.at l in
     omega (arith, c.next-token.ensures.moved)
 
@@ -66,7 +66,7 @@ loop-preserved c =
     let within : c.loop.lexer.at ≤ length c.args.text.now = subst (λ xs. c.loop.lexer.at ≤ length xs) same c.loop.lexer.within in
     let is : plain c.next-token.result ≡ lexeme c.args.text.now c.loop.lexer.at = c.next-token.ensures.token ∙ ap (λ xs. lexeme xs c.loop.lexer.at) same in
     let to : after c.args.text.now c.loop.lexer.at ≡ c.next-token.new.self.at = ap (λ xs. after xs c.loop.lexer.at) (sym same) ∙ sym c.next-token.ensures.moved in
-    let on = turn_on c.args.text.now c.loop.lexer.at (view c.loop.parser) c.loop.table _ within inv.0 inv.1 inv.2 (plain c.next-token.result) c.step.result (view c.step.new.self) c.step.new.table _ is c.step.ensures.step c.in-ok-step.was (sym c.if-is-last.ensures) in (
+    let on = turn_on c.args.text.now c.loop.lexer.at (view c.loop.parser) c.loop.table _ within inv.0 inv.1 inv.2 (plain c.next-token.result) c.step.result (view c.step.new.self) c.step.new.table _ is c.step.ensures.step c.in_ok-step.was (sym c.if-is_last.ensures) in (
       ap (λ x. x.now) c.next-token.ensures.same ∙ same,
       omega (arith, c.loop.invariant.1),
       (

@@ -24,7 +24,7 @@ returns-in-Some t c =
     record {
       value =
           ap (option_map (λ n. n + 1)) (sym c.in-Some.is)
-          ∙ found_outside c.args.name.now _ _ _ c.find-among.result (newest_whole c.args.names.now _ c.if-n-eq0.false) (sym c.if-same.ensures) c.find-among.ensures.value;
+          ∙ found_outside c.args.name.now _ _ _ c.find_among.result (newest_whole c.args.names.now _ c.if-n-eq0.false) (sym c.if-same.ensures) c.find_among.ensures.value;
       bound = omega (arith, simp length-take at bound);
     }
 
@@ -33,6 +33,6 @@ returns-in-None t c =
     record {
       value =
           ap (option_map (λ n. n + 1)) (sym c.in-None.is)
-          ∙ found_outside c.args.name.now _ _ _ c.find-among.result (newest_whole c.args.names.now _ c.if-n-eq0.false) (sym c.if-same.ensures) c.find-among.ensures.value;
+          ∙ found_outside c.args.name.now _ _ _ c.find_among.result (newest_whole c.args.names.now _ c.if-n-eq0.false) (sym c.if-same.ensures) c.find_among.ensures.value;
       bound = tt;
     }

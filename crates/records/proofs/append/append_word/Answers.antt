@@ -3,14 +3,14 @@ use Rattle.records.specs.Layout.{count}
 use Rattle.records.proofs.Operations.{size_formed, reached_within, free_within, appends}
 use Rattle.records.proofs.append.append_word.Goals as goal
 
-pub count-in-requires : goal.count-in-requires
-count-in-requires c = size_formed c.args.bytes.now c.requires.formed
+pub count_in-requires : goal.count_in-requires
+count_in-requires c = size_formed c.args.bytes.now c.requires.formed
 
-pub add-word-requires : goal.add-word-requires
-add-word-requires c =
+pub add_word-requires : goal.add_word-requires
+add_word-requires c =
     let bytes = c.args.bytes.now in
     let s = c.requires in
-    let is = c.count-in.ensures in
+    let is = c.count_in.ensures in
     (size_formed bytes s.formed, (subst (λ r. r < 64) (sym s.ends) (reached_within bytes s.formed _ (omega arith)), (free_within bytes s.formed, omega arith)))
 
 pub returns : goal.returns

@@ -10,7 +10,7 @@ loop-operation-preserved c =
     let operations = c.args.operations.now in
     let i = c.loop-operation.operation-index in
     let lt = c.loop-operation-test.true in
-    more_written c.args.memory.now.bytes operations i lt _ _ _ (get_or_default operations i _ Clear lt) c.loop-operation.invariant c.write-one.ensures
+    more_written c.args.memory.now.bytes operations i lt _ _ _ (get_or_default operations i _ Clear lt) c.loop-operation.invariant c.write_one.ensures
 
 pub returns : goal.returns
 returns c =

@@ -1,5 +1,5 @@
 use Rattle.std.proofs.Common.{length}
 use Rattle.typing.proofs.walk.+type_of.Given as goal
 
-abbrev pub decreases-type-of : goal.decreases-type-of
-decreases-type-of l = length l.entries.now
+abbrev pub decreases-type_of : goal.decreases-type_of
+decreases-type_of l = length l.entries.now

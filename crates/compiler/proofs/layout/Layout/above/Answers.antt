@@ -4,7 +4,7 @@ use Rattle.compiler.proofs.layout.Layout.above.Goals as goal
 
 pub returns-then-position-self : goal.returns-then-position-self
 returns-then-position-self c =
-    above_found c.args.self.now.spots c.args.self.now.bindings c.args.self.now.height c.args.position _ (omega arith) c.from-top.ensures
+    above_found c.args.self.now.spots c.args.self.now.bindings c.args.self.now.height c.args.position _ (omega arith) c.from_top.ensures
 
 pub returns-else-position-self : goal.returns-else-position-self
 returns-else-position-self c =

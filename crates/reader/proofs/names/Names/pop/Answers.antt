@@ -8,7 +8,7 @@ returns c =
     let few = c.args.self.now.few in
     record {
       held =
-          ap (λ k. newest_first (take k c.args.self.now.names)) c.saturating-sub-self.ensures
+          ap (λ k. newest_first (take k c.args.self.now.names)) c.saturating_sub-self.ensures
           ∙ newest_drop c.args.self.now.names c.args.self.now.count (record { ref_ptr = (0, 0); now = [] }) (omega arith);
-      count = c.saturating-sub-self.ensures;
+      count = c.saturating_sub-self.ensures;
     }

@@ -7,6 +7,6 @@ returns-in-Whole c =
     record {
       step =
           begun_at _ _ _ _ _ _ _ _ _ _ _ (sym c.opening.ensures.value ∙ c.in-Whole.is)
-          (moved_stepped _ _ _ _ _ c.enter-whole.ensures.step);
-      room = c.enter-whole.ensures.room;
+          (moved_stepped _ _ _ _ _ c.enter_whole.ensures.step);
+      room = c.enter_whole.ensures.room;
     }

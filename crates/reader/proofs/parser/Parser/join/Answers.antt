@@ -10,7 +10,7 @@ push-requires c =
     record {
       «open» =
           operator_opens c.args.operator (frames_of c.args.self.now.stack) (frames_of c.close.new.self.stack) c.above.result
-          (ap (λ (s : State). s.frames) c.close.ensures.view ∙ ap (λ k. left k (frames_of c.args.self.now.stack)) c.least-of.ensures) c.above.ensures (λ e. c.if-above-row.false (e ∙ sym (ap (λ r. r.level) c.row.ensures)));
+          (ap (λ (s : State). s.frames) c.close.ensures.view ∙ ap (λ k. left k (frames_of c.args.self.now.stack)) c.least_of.ensures) c.above.ensures (λ e. c.if-above-row.false (e ∙ sym (ap (λ r. r.level) c.row.ensures)));
       no_value = refl;
       no_body = refl;
       fits = refl;

@@ -4,8 +4,8 @@ use Rattle.reader.specs.Opened.{frames_of}
 use Rattle.reader.proofs.Lets.{turn_values, turn_bodies}
 use Rattle.reader.proofs.parser.Parser.turn.Goals as goal
 
-pub invariant-of-self : goal.invariant-of-self
-invariant-of-self c =
+pub invariant_of-self : goal.invariant_of-self
+invariant_of-self c =
     let fs = frames_of c.close.new.self.stack in
     let f = c.in-Some.frame in
     let t = sym c.in-Some.ensures in

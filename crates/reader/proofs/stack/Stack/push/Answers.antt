@@ -7,8 +7,8 @@ bounds-self-used c =
     let s = c.args.self.now in
     push_room s.frames s.used s.depth s.nested s.shallow s.shaped c.args.frame c.requires
 
-pub invariant-of-self : goal.invariant-of-self
-invariant-of-self c =
+pub invariant_of-self : goal.invariant_of-self
+invariant_of-self c =
     let s = c.args.self.now in
     push_sound s.frames s.used s.depth s.nested s.shallow s.shaped c.args.frame c.nesting.result (omega arith) c.requires c.nesting.ensures
 
