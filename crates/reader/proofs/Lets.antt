@@ -1,8 +1,8 @@
 -- Operators find room, and so do the names of lets.
-use Rattle.std.proofs.Common.{◌≡◌, ℕ, zero, suc, ◌+◌, ◌-◌, ◌<◌, ◌≤◌, Bool, true, false, cond, ltb, leb, List, [], ◌∷◌, Some, None, Option, sym, refl, ap, ◌∙◌, subst, arith}
+use Rattle.std.proofs.Common.{◌≡◌, ℕ, ◌+◌, ◌<◌, ◌≤◌, Bool, true, false, cond, ltb, List, [], ◌∷◌, Some, None, Option, sym, refl, ap, ◌∙◌, subst, arith}
 use Rattle.std.proofs.lemmas.Bool.{cond-true, cond-false, leb-false, lt-ltb, true≢false}
 use Rattle.language.specs.Fold.{ends, remarked, turn_of}
-use Rattle.language.specs.Frames.{frame, level_by, above, binds, left, nests, deep, is_body}
+use Rattle.language.specs.Frames.{level_by, above, binds, left, nests, deep, is_body}
 use Rattle.language.specs.Operators.{row_of}
 use Rattle.language.specs.declared.frame.Frame.{Frame}
 use Rattle.language.specs.declared.frame.Mark.{Mark}

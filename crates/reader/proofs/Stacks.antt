@@ -1,5 +1,5 @@
 -- Frames put on the stack and taken off keep its shape, and its shape keeps it short.
-use Rattle.std.proofs.Common.{◌≡◌, ℕ, zero, suc, ◌+◌, ◌-◌, ◌*◌, ◌<◌, ◌≤◌, Bool, true, false, cond, ◌&&◌, ltb, ◌≢◌, List, [], ◌∷◌, length, get_or, drop, set, Some, None, Option, sym, refl, ap, ◌∙◌, subst, add-one, arith}
+use Rattle.std.proofs.Common.{◌≡◌, ℕ, zero, suc, ◌+◌, ◌-◌, ◌*◌, ◌<◌, ◌≤◌, Bool, true, false, cond, ltb, ◌≢◌, List, [], ◌∷◌, length, get_or, set, sym, refl, ap, ◌∙◌, add-one, arith}
 use Rattle.std.proofs.lemmas.List.{get_or-set_same, get_or-set_other}
 use Rattle.std.proofs.lemmas.Bool.{cond-true, cond-false, ltb-true, and_parts, and_from, true≢false}
 use Rattle.language.specs.Fold.{remarked}
@@ -10,7 +10,7 @@ use Rattle.language.specs.declared.frame.Mark.{Mark}
 use Rattle.language.specs.declared.frame.Mark.TheVariants.{Paren, Condition, Then, Else, Binder, Value, Body, Binary, Prefix}
 use Rattle.language.specs.declared.operator.Operator.{Operator}
 use Rattle.language.specs.declared.operator.Operator.TheVariants.{Or, And, Equal, AtMost, Plus, Times}
-use Rattle.reader.specs.Stacks.{top_frames, top, stands, shaped, opens, top_nests}
+use Rattle.reader.specs.Stacks.{top_frames, stands, shaped, opens, top_nests}
 
 -- an array as a list of frames
 pub length-top : (fs : List Frame) (n : ℕ) → length (top_frames fs n) ≡ n
@@ -128,7 +128,7 @@ room m fs h d o =
 
 -- what a stack keeps
 abbrev pub Sound : List Frame → ℕ → ℕ → Type 0
-Sound fs n d = (n ≤ 389) × ((d ≡ deep (top_frames fs n)) × ((d ≤ 64) × ((shaped (top_frames fs n) ≡ true) × Unit {0})))
+Sound fs n d = record { within : n ≤ 389; nested : d ≡ deep (top_frames fs n); shallow : d ≤ 64; shaped : shaped (top_frames fs n) ≡ true }
 
 stands_if : (m : Mark) (fs : List Frame) → opens m fs ≡ true → stands m fs ≡ true
 stands_if m fs o =
@@ -163,7 +163,12 @@ module _ (fs : List Frame) (n d : ℕ) (nested : d ≡ deep (top_frames fs n)) (
       let t = top_push fs n f (omega arith) in
       let e : d + w ≡ cond (nests f.mark) (deep gs + 1) (deep gs) = ap (λ k. k + w) nested ∙ (ap (λ k. deep gs + k) we ∙ plus_weight (nests f.mark) (deep gs)) in
       let few : d + w ≤ 64 = let m = deep_more f.mark gs (omega arith) o in omega arith in
-      (omega arith, (e ∙ sym (ap deep t), (few, (ap shaped t ∙ and_from (stands f.mark gs) (shaped gs) (stands_if f.mark gs o) shape, tt))))
+      record {
+        within = omega arith;
+        nested = e ∙ sym (ap deep t);
+        shallow = few;
+        shaped = ap shaped t ∙ and_from (stands f.mark gs) (shaped gs) (stands_if f.mark gs o) shape;
+      }
 
   pub pop_weight : (w : ℕ) → 0 < n → w ≡ cond (nests (get_or fs (n - 1) (frame Paren 0 0 0)).mark) 1 0 → d ≡ deep (top_frames fs (n - 1)) + w
   pop_weight w some we =
@@ -176,7 +181,7 @@ module _ (fs : List Frame) (n d : ℕ) (nested : d ≡ deep (top_frames fs n)) (
       let e = pop_weight w some we in
       let gs = top_frames fs (n - 1) in
       let s = and_parts (stands (get_or fs (n - 1) (frame Paren 0 0 0)).mark gs) (shaped gs) (sym (ap shaped (top_last fs n some)) ∙ shape) in
-      (omega arith, (omega arith, (omega arith, (s.1, tt))))
+      record { within = omega arith; nested = omega arith; shallow = omega arith; shaped = s.1 }
 
 -- another mark on the nested frame on top
 remark_top : (fs : List Frame) (n : ℕ) (m : Mark) (p w k : ℕ) → 0 < n → n ≤ length fs → p ≡ (get_or fs (n - 1) (frame Paren 0 0 0)).place → w ≡ (get_or fs (n - 1) (frame Paren 0 0 0)).whole →
@@ -209,4 +214,9 @@ module _ (fs : List Frame) (n : ℕ) (m : Mark) (k : ℕ) (long : length fs ≡ 
   pub remark_sound : (d p w : ℕ) → p ≡ (get_or fs (n - 1) (frame Paren 0 0 0)).place → w ≡ (get_or fs (n - 1) (frame Paren 0 0 0)).whole → nests m ≡ true → d ≡ deep (top_frames fs n) → d ≤ 64 → shaped (top_frames fs n) ≡ true → Sound (set fs (n - 1) (frame m p w k)) n d
   remark_sound d p w pe we h nested shallow shape =
       let e = remark_frames p w pe we in
-      (within, (nested ∙ sym (ap deep e ∙ remark_deep (top_frames fs n) m k t h), (shallow, (ap shaped e ∙ remark_shaped (top_frames fs n) m k shape h, tt))))
+      record {
+        within = within;
+        nested = nested ∙ sym (ap deep e ∙ remark_deep (top_frames fs n) m k t h);
+        shallow = shallow;
+        shaped = ap shaped e ∙ remark_shaped (top_frames fs n) m k shape h;
+      }

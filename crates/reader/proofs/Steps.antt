@@ -1,7 +1,7 @@
 -- The code keeps step with the fold.
-use Rattle.std.proofs.Common.{◌≡◌, ℕ, zero, suc, ◌+◌, ◌-◌, ◌<◌, ◌≤◌, Bool, true, false, cond, List, [], ◌∷◌, ◌++◌, length, drop, set, Ok, Err, Result, sym, refl, ap, ◌∙◌, subst, arith}
+use Rattle.std.proofs.Common.{◌≡◌, ℕ, List, Ok, Err, Result, sym, ap, subst}
 use Rattle.refusal.specs.declared.Refusal.{Refusal}
-use Rattle.language.specs.Fold.{State, state, Step, begun}
+use Rattle.language.specs.Fold.{State, Step, begun}
 use Rattle.language.specs.declared.entry.Entry.{Entry}
 use Rattle.language.specs.declared.step.Opening.{Opening}
 use Rattle.language.specs.declared.token.TokenKind.{TokenKind}

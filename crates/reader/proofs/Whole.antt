@@ -1,29 +1,26 @@
 -- Reading token by token gives what the fold over all tokens gives.
-use Rattle.std.proofs.Common.{◌≡◌, ℕ, zero, suc, ◌+◌, ◌-◌, ◌<◌, ◌≤◌, min, Bool, true, false, cond, ◌&&◌, ◌||◌, eqb, ltb, leb, List, [], ◌∷◌, ◌++◌, length, get_or, take, drop, set, Some, None, Ok, Err, Option, Result, sym, refl, ap, ◌∙◌, subst, append_assoc, arith, length-append}
+use Rattle.std.proofs.Common.{◌≡◌, ℕ, zero, suc, ◌+◌, ◌<◌, ◌≤◌, min, Bool, true, false, cond, ◌&&◌, ◌||◌, eqb, ltb, leb, List, [], ◌∷◌, ◌++◌, length, get_or, take, drop, set, Some, None, Ok, Err, Option, Result, sym, refl, ap, ◌∙◌, subst, append_assoc, arith, length-append}
 use Rattle.std.proofs.lemmas.List.{append-nil, take-append-drop, take_more_set, drop-set-lt, length-set}
 use Rattle.std.proofs.lemmas.Bool.{cond-true, cond-false, true≢false, or_left, le-ltb, eqb-false}
 use Rattle.refusal.specs.declared.Refusal.{Refusal}
 use Rattle.refusal.specs.declared.Refusal.TheVariants.{TooManyEntries}
-use Rattle.language.specs.Fold.{State, state, Step, leaf, named, opened, enter, enter_whole, begun, opening_of, misplaced, bound, remarked, is_name, is_equal, equated, joined, ended, endings, ends, turn_to, turn_top, turned, turn_of, in_of, brought, shut_top, shut, is_paren, finish_top, finished, gone_on, sequel_of, duly, feed, feeds, prefixed, followed}
-use Rattle.language.specs.Frames.{above, deep, start, closed}
+use Rattle.language.specs.Fold.{State, Step, named, enter, begun, opening_of, is_name, is_equal, ended, endings, ends, turn_to, turn_top, turned, turn_of, in_of, brought, shut_top, is_paren, finish_top, gone_on, sequel_of, duly, feed, feeds, prefixed, followed}
+use Rattle.language.specs.Frames.{above, deep}
 use Rattle.language.specs.Operators.{row_of}
-use Rattle.language.specs.Reading.{is_last, tokens_from, fitted, reading, answer, leaves, parse}
-use Rattle.language.specs.Tokens.{Lexeme, lexeme, after, begins, scanned, begun as begunWith, is_blank, is_digit, is_small, is_word, is_minus, two_mark, one_mark, mark_by, run_of, numeral_at, word_at, longer}
+use Rattle.language.specs.Reading.{is_last, tokens_from, fitted, answer, leaves}
+use Rattle.language.specs.Tokens.{Lexeme, lexeme, after, begins, scanned, begun as begunWith, is_digit, is_small, is_word, is_minus, two_mark, one_mark, mark_by, run_of}
 use Rattle.language.specs.declared.entry.Entry.{Entry}
 use Rattle.language.specs.declared.frame.Due.{Due}
 use Rattle.language.specs.declared.frame.Due.TheVariants.{Operand, Binder, Equals, Operator}
 use Rattle.language.specs.declared.frame.Frame.{Frame}
 use Rattle.language.specs.declared.frame.Mark.{Mark}
-use Rattle.language.specs.declared.frame.Mark.TheVariants.{Value}
 use Rattle.language.specs.declared.step.Opening.{Opening}
 use Rattle.language.specs.declared.step.Opening.TheVariants.{Leaf, Name, Nested, Whole, Nothing}
 use Rattle.language.specs.declared.step.Sequel.{Sequel}
 use Rattle.language.specs.declared.step.Sequel.TheVariants.{Join, Turn, Bring, Shut, Finish, Nothing as NoSequel}
 use Rattle.language.specs.declared.token.TokenKind.{TokenKind}
-use Rattle.language.specs.declared.token.TokenKind.TheVariants.{End}
-use Rattle.reader.specs.Outcomes.{paired, laid}
+use Rattle.reader.specs.Outcomes.{laid}
 use Rattle.reader.specs.Steps.{put, Stepped}
-use Rattle.reader.proofs.Stacks.{by_cases}
 
 -- a step counts the entries that it adds
 abbrev Counts : ℕ → Step → Type 0

@@ -1,9 +1,9 @@
 -- The frames that an array holds, the newest first, and how they stand on one another.
-use Rattle.std.specs.Prelude.{ℕ, zero, suc, ◌+◌, Bool, true, false, cond, ◌&&◌, List, [], ◌∷◌, Some, None, Option, nat_lt, slice_index_or}
+use Rattle.std.specs.Prelude.{ℕ, zero, suc, Bool, true, false, cond, ◌&&◌, List, [], ◌∷◌, Some, None, Option, nat_lt, slice_index_or}
 use Rattle.language.specs.Frames.{frame, level_by, above, nests, deep}
 use Rattle.language.specs.declared.frame.Frame.{Frame}
 use Rattle.language.specs.declared.frame.Mark.{Mark}
-use Rattle.language.specs.declared.frame.Mark.TheVariants.{Paren, Condition, Then, Else, Binder, Value, Body, Binary, Prefix}
+use Rattle.language.specs.declared.frame.Mark.TheVariants.{Paren}
 
 -- the first n frames of an array
 abbrev pub top_frames : List Frame → ℕ → List Frame

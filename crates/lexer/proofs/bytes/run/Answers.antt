@@ -1,4 +1,4 @@
-use Rattle.std.proofs.Common.{sym, ◌∙◌, arith, rules}
+use Rattle.std.proofs.Common.{sym, ◌∙◌, rules}
 use Rattle.lexer.specs.Classes.{belongs}
 use Rattle.lexer.proofs.Runs.{run_on, run_stops, run_ends}
 use Rattle.lexer.proofs.bytes.run.Goals as goal

@@ -1,4 +1,4 @@
-use Rattle.std.proofs.Common.{true, ap, ◌∙◌, arith, length-drop, rules}
+use Rattle.std.proofs.Common.{true, ap, ◌∙◌, length-drop, rules}
 use Rattle.std.proofs.lemmas.List.{take_rest, length-take, length-drop}
 use Rattle.language.specs.Tokens.{longer, numeral_at}
 use Rattle.lexer.proofs.scan.minus_at.Goals as goal

@@ -1,4 +1,4 @@
-use Rattle.std.proofs.Common.{sym, ◌∙◌, arith, rules}
+use Rattle.std.proofs.Common.{arith, rules}
 use Rattle.lexer.proofs.Numerals.{value_on, value_done}
 use Rattle.lexer.proofs.scan.value.Goals as goal
 

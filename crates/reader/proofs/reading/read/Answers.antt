@@ -1,7 +1,7 @@
-use Rattle.std.proofs.Common.{ltb, length, Ok, Err, sym, ap, ◌∙◌, arith}
+use Rattle.std.proofs.Common.{ltb, length, Err, sym, ap, ◌∙◌, arith}
 use Rattle.std.proofs.lemmas.Bool.{cond-false, le-ltb}
 use Rattle.refusal.specs.declared.Refusal.TheVariants.{TextTooLong}
-use Rattle.language.specs.Reading.{parse, fitted, reading, answer, leaves}
+use Rattle.language.specs.Reading.{parse, fitted, answer, leaves}
 use Rattle.reader.proofs.Whole.{keeps}
 use Rattle.reader.proofs.reading.read.Goals as goal
 

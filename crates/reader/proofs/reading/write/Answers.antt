@@ -1,7 +1,7 @@
-use Rattle.std.proofs.Common.{◌≡◌, ℕ, ◌+◌, ◌<◌, ◌≤◌, false, length, Ok, Err, sym, refl, ap, ◌∙◌, subst, arith}
+use Rattle.std.proofs.Common.{◌≡◌, ◌+◌, ◌<◌, ◌≤◌, false, length, Err, sym, ap, ◌∙◌, subst, arith}
 use Rattle.std.proofs.lemmas.Result.{err_from_is_err_and}
 use Rattle.language.specs.Fold.{State, feeds}
-use Rattle.language.specs.Reading.{tokens, tokens_from, is_last}
+use Rattle.language.specs.Reading.{tokens_from, is_last}
 use Rattle.language.specs.Tokens.{lexeme, after}
 use Rattle.lexer.specs.Lexing.{plain}
 use Rattle.reader.specs.Outcomes.{paired, laid}

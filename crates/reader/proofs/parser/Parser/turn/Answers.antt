@@ -9,7 +9,9 @@ invariant_of-self c =
     let fs = frames_of c.close.new.self.stack in
     let f = c.in-Some.frame in
     let t = sym c.in-Some.ensures in
-    let e = sym c.in-Some-turned.ensures in (
-      c.close.new.self.valued ∙ sym (ap values c.remark.ensures.frames ∙ turn_values c.args.turn fs f c.in-Some-turned.mark _ t e),
-      (c.close.new.self.bodied ∙ sym (ap bodies c.remark.ensures.frames ∙ turn_bodies c.args.turn fs f c.in-Some-turned.mark _ t e), (refl, tt)),
-    )
+    let e = sym c.in-Some-turned.ensures in
+    record {
+      valued = c.close.new.self.valued ∙ sym (ap values c.remark.ensures.frames ∙ turn_values c.args.turn fs f c.in-Some-turned.mark _ t e);
+      bodied = c.close.new.self.bodied ∙ sym (ap bodies c.remark.ensures.frames ∙ turn_bodies c.args.turn fs f c.in-Some-turned.mark _ t e);
+      expected = refl;
+    }
