@@ -1,10 +1,8 @@
 -- The translation of a rule: its words, how many they are, how high the stack stands, and why it may be refused.
-use Rattle.std.specs.Prelude.{ℕ, zero, suc, ◌+◌, min, max, Bool, true, false, cond, ◌||◌, List, [], ◌∷◌, ◌++◌, replicate, Some, None, Option, nat_lt}
-use Rattle.std.proofs.Common.{zero-le}
+use Rattle.std.specs.Prelude.{ℕ, zero, suc, ◌+◌, max, cond, ◌||◌, List, [], ◌∷◌, ◌++◌, replicate, Some, None, Option, nat_lt}
 use Rattle.refusal.specs.declared.Refusal.{Refusal}
 use Rattle.refusal.specs.declared.Refusal.TheVariants.{TooHigh, BranchTooLong, MemoryFull}
 use Rattle.bytecode.specs.Words.{plus}
-use Rattle.bytecode.specs.declared.argument.Argument.{Argument}
 use Rattle.bytecode.specs.declared.instruction.Instruction.{Instruction}
 use Rattle.bytecode.specs.declared.instruction.Instruction.TheVariants.{Push, Consti, Acc, Popi, Branch, Branchif}
 use Rattle.language.specs.Operators.{row_of, prefix_row_of}

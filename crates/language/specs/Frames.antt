@@ -1,5 +1,5 @@
 -- The frames that stay open while a rule is read, the newest first.
-use Rattle.std.specs.Prelude.{ℕ, zero, suc, ◌+◌, ◌-◌, Bool, true, false, cond, ◌&&◌, List, [], ◌∷◌, drop, nat_le}
+use Rattle.std.specs.Prelude.{ℕ, ◌+◌, ◌-◌, Bool, true, false, cond, List, [], ◌∷◌, drop, nat_le}
 use Rattle.bytecode.specs.Words.{plus}
 use Rattle.language.specs.Operators.{row_of}
 use Rattle.language.specs.Tree.{entry}

@@ -1,5 +1,5 @@
 -- The type of a rule, or the place of the first entry in post-order whose types do not fit.
-use Rattle.std.specs.Prelude.{ℕ, Bool, true, false, cond, ◌&&◌, List, [], ◌∷◌, replicate, Some, None, Ok, Err, Option, Result}
+use Rattle.std.specs.Prelude.{ℕ, Bool, true, false, cond, ◌&&◌, List, ◌∷◌, replicate, Some, None, Ok, Err, Option, Result}
 use Rattle.std.specs.List.{slice_get}
 use Rattle.language.specs.Operators.{row_of, prefix_row_of}
 use Rattle.language.specs.Tree.{Tree, number, truth, name, prefix, binary, choose, bind}

@@ -1,5 +1,5 @@
 -- What the last entry of a table says of its tree.
-use Rattle.std.proofs.Common.{◌≡◌, ℕ, zero, suc, ◌+◌, ◌-◌, ◌<◌, ◌≤◌, Bool, cond, leb, List, [], ◌∷◌, ◌++◌, length, get_or, take, drop, IfSome, Some, None, Option, sym, refl, ap, ◌∙◌, subst, append_assoc, arith, length-append, length-take}
+use Rattle.std.proofs.Common.{◌≡◌, ℕ, ◌+◌, ◌-◌, ◌<◌, ◌≤◌, cond, leb, List, [], ◌∷◌, ◌++◌, length, get_or, take, IfSome, Some, None, Option, sym, refl, ap, ◌∙◌, subst, append_assoc, arith, length-append, length-take}
 use Rattle.std.proofs.lemmas.List.{get_or_at, take_at}
 use Rattle.std.proofs.lemmas.Bool.{cond-true, cond_both, le-leb}
 use Rattle.bytecode.specs.Words.{plus}
@@ -10,7 +10,6 @@ use Rattle.language.specs.declared.entry.Kind.TheVariants.{Blank, Number as Numb
 use Rattle.language.specs.declared.operator.Operator.{Operator}
 use Rattle.language.specs.declared.operator.Prefix.{Prefix as PrefixOperator}
 use Rattle.parts.specs.Nodes.{node_of, before, binary_at, choose_at, bind_at, Within}
-use Rattle.parts.specs.declared.node.Node.{Node}
 use Rattle.parts.specs.declared.node.Node.TheVariants.{Broken, Number, Truth, Name, Prefix, Binary, If, Let}
 use Rattle.parts.proofs.Tables.{length-flatten, size_pos}
 

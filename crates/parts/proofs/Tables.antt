@@ -1,15 +1,14 @@
 -- The tree of a table, and the slices that hold its parts.
-use Rattle.std.proofs.Common.{◌≡◌, ℕ, zero, suc, ◌+◌, ◌-◌, ◌*◌, ◌<◌, ◌≤◌, Bool, cond, List, [], ◌∷◌, ◌++◌, length, get_or, take, drop, sym, refl, ap, ◌∙◌, append_assoc, arith, length-append}
-use Rattle.std.proofs.lemmas.List.{get_or_at, take_at, drop_at}
+use Rattle.std.proofs.Common.{◌≡◌, ℕ, ◌+◌, ◌-◌, ◌<◌, Bool, cond, List, [], ◌∷◌, ◌++◌, length, take, drop, sym, refl, ap, ◌∙◌, append_assoc, arith, length-append}
+use Rattle.std.proofs.lemmas.List.{take_at, drop_at}
 use Rattle.bytecode.specs.Words.{plus}
 use Rattle.bytecode.specs.declared.argument.Argument.{Argument}
 use Rattle.language.specs.Tree.{Tree, number, truth, name, prefix, binary, choose, bind, size, entry, flatten}
 use Rattle.language.specs.declared.entry.Entry.{Entry}
-use Rattle.language.specs.declared.entry.Kind.TheVariants.{Number as NumberKind, Truth as TruthKind, Name as NameKind, Prefix as PrefixKind, Binary as BinaryKind, If as IfKind, Let as LetKind}
+use Rattle.language.specs.declared.entry.Kind.TheVariants.{If as IfKind}
 use Rattle.language.specs.declared.operator.Operator.{Operator}
 use Rattle.language.specs.declared.operator.Prefix.{Prefix as PrefixOperator}
 use Rattle.parts.specs.Nodes.{node_of}
-use Rattle.parts.specs.declared.node.Node.{Node}
 use Rattle.parts.specs.declared.node.Node.TheVariants.{Broken, Number, Truth, Name, Prefix, Binary, If, Let}
 
 -- a table has as many entries as its tree has nodes

@@ -1,6 +1,6 @@
 -- The shape of a table's code, from the shapes of its parts.
-use Rattle.std.proofs.Common.{◌≡◌, ℕ, ◌+◌, ◌-◌, ◌*◌, ◌<◌, ◌≤◌, max, List, length, take, drop, sym, refl, ap, ◌∙◌, arith, length-drop, length-take}
-use Rattle.language.specs.Tree.{Tree, flatten, prefix, binary, choose, bind}
+use Rattle.std.proofs.Common.{◌≡◌, ℕ, ◌+◌, ◌-◌, ◌*◌, ◌<◌, ◌≤◌, max, List, length, take, drop, sym, ap, ◌∙◌, arith, length-take}
+use Rattle.language.specs.Tree.{Tree, flatten}
 use Rattle.language.specs.declared.entry.Entry.{Entry}
 use Rattle.language.specs.declared.operator.Operator.{Operator}
 use Rattle.language.specs.declared.operator.Prefix.{Prefix}

@@ -1,5 +1,5 @@
 -- What is judged of a node, from what is judged of its parts.
-use Rattle.std.proofs.Common.{◌≡◌, ℕ, ◌-◌, List, ◌∷◌, length, take, drop, Ok, Err, Result, sym, refl, ap, ◌∙◌, subst, arith}
+use Rattle.std.proofs.Common.{◌≡◌, ℕ, ◌-◌, List, ◌∷◌, length, take, drop, Ok, Err, Result, sym, ap, ◌∙◌, subst, arith}
 use Rattle.refusal.specs.declared.Refusal.{Refusal}
 use Rattle.language.specs.Tree.{Tree, flatten}
 use Rattle.language.specs.Typing.{and_then, typed}

@@ -1,4 +1,4 @@
-use Rattle.std.proofs.Common.{◌≡◌, ◌-◌, ◌≤◌, [], length, take, sym, ap, ◌∙◌, subst, arith, length-take}
+use Rattle.std.proofs.Common.{◌≡◌, ◌-◌, ◌≤◌, [], length, take, sym, ◌∙◌, subst, arith, length-take}
 use Rattle.language.specs.declared.entry.Kind.TheVariants.{Blank, Number as NumberKind, Truth as TruthKind, Name as NameKind, Prefix as PrefixKind, Binary as BinaryKind, If as IfKind, Let as LetKind}
 use Rattle.parts.specs.Nodes.{node_of, binary_at, choose_at, bind_at, Within}
 use Rattle.parts.specs.declared.node.Node.TheVariants.{Broken, Number, Truth, Name, Prefix}
