@@ -1,13 +1,12 @@
 -- What the grammar derives is read.
-use Rattle.std.proofs.Common.{◌≡◌, ℕ, zero, suc, ◌+◌, ◌-◌, ◌<◌, ◌≤◌, Bool, true, false, cond, eqb, ltb, leb, List, [], ◌∷◌, ◌++◌, length, take, drop, Some, Ok, Err, Result, sym, refl, ap, ◌∙◌, subst, append_assoc, arith, length-append}
+use Rattle.std.proofs.Common.{◌≡◌, ℕ, suc, ◌+◌, ◌-◌, ◌<◌, ◌≤◌, true, List, [], ◌∷◌, ◌++◌, length, Ok, Err, Result, sym, refl, ap, ◌∙◌, append_assoc, arith, length-append}
 use Rattle.std.proofs.lemmas.List.{append-nil}
 use Rattle.std.proofs.lemmas.Bool.{cond-true, cond-false, le-leb, lt-ltb, eq-eqb, ne_eqb}
 use Rattle.refusal.specs.declared.Refusal.{Refusal}
 use Rattle.refusal.specs.declared.Refusal.TheVariants.{Unexpected}
 use Rattle.bytecode.specs.Words.{plus}
 use Rattle.language.specs.Frames.{frame, start, above, left, closed, scoped, leaving, deep, binds, joint}
-use Rattle.language.specs.Fold.{State, state, Step, named as namedTo, opened, enter, enter_whole, ended, endings, ends, joined, then_of, else_of, in_of, turned, brought, shut, finished, sequel_of, gone_on, duly, feed, feeds, followed, prefixed as prefixedBy, fresh}
-use Rattle.language.specs.Names.{position}
+use Rattle.language.specs.Fold.{State, state, Step, named as namedTo, opened, enter, enter_whole, ended, endings, joined, then_of, else_of, in_of, turned, brought, shut, finished, sequel_of, gone_on, duly, feeds, followed, prefixed as prefixedBy}
 use Rattle.language.specs.Tokens.{Lexeme}
 use Rattle.language.specs.Tree.{Tree, number, truth, name, prefix, binary, choose, bind, size, entry, flatten}
 use Rattle.language.specs.declared.entry.Entry.{Entry}
@@ -22,9 +21,9 @@ use Rattle.language.specs.declared.operator.Operator.TheVariants.{Equal}
 use Rattle.language.specs.declared.operator.Prefix.{Prefix as PrefixOperator}
 use Rattle.language.specs.declared.token.TokenKind.{TokenKind}
 use Rattle.language.specs.declared.token.TokenKind.TheVariants.{Number, Truth, Name, Binary, Prefix, If, Then, Else, Let, In, Open, Close, End}
-use Rattle.grammar.specs.Grammar.{level, left_level, Derives, constant, truth_value, named, parens, prefixed, join, if_else, let_in, tighter, Rule}
+use Rattle.grammar.specs.Grammar.{level, left_level, Derives, constant, truth_value, named, parens, prefixed, join, if_else, let_in, tighter}
 use Rattle.grammar.specs.Laws.{Complete}
-use Rattle.grammar.proofs.Frames.{level_low, level_top, ends_left, left_low, left_top, left_none, closed_none, scoped_none, left_left, scoped_scoped, closed_closed}
+use Rattle.grammar.proofs.Frames.{level_low, level_top, ends_left, left_low, left_none, closed_none, scoped_none, left_left, scoped_scoped, closed_closed}
 use Rattle.grammar.proofs.Trees.{length-flatten}
 
 prefixed_none : (r : Result (List Entry) Refusal) → prefixedBy [] r ≡ r
