@@ -1,10 +1,10 @@
 -- The card of a rule from the measure of its code.
-use Rattle.std.proofs.Common.{◌≡◌, ℕ, ◌+◌, ◌≤◌, IfErr, Some, None, Ok, Err, Option, Result, sym, refl, ap, ◌∙◌, subst, arith}
+use Rattle.std.proofs.Common.{◌≡◌, ℕ, ◌≤◌, IfErr, Some, None, Ok, Err, Option, Result, sym, refl, ap, ◌∙◌, subst, arith}
 use Rattle.refusal.specs.declared.Refusal.{Refusal}
-use Rattle.language.specs.Code.{long, height}
+use Rattle.language.specs.Code.{long}
 use Rattle.language.specs.Tree.{Tree, number, truth, name, prefix, binary, choose, bind}
 use Rattle.language.specs.declared.operator.ValueType.{ValueType}
-use Rattle.compiler.specs.Cards.{Tells, Answers}
+use Rattle.compiler.specs.Cards.{Answers}
 use Rattle.compiler.specs.Translating.{measure_of, answer_of}
 use Rattle.compiler.specs.declared.card.Card.{Card}
 use Rattle.compiler.specs.declared.measure.Measure.{Measure}

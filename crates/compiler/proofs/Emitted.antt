@@ -1,5 +1,5 @@
 -- The code of a table, from the code of its parts.
-use Rattle.std.proofs.Common.{◌≡◌, ℕ, zero, suc, ◌+◌, ◌-◌, ◌≤◌, min, max, Bool, true, false, cond, ◌||◌, ltb, List, [], ◌∷◌, ◌++◌, map, length, take, drop, Some, None, Ok, Err, Option, sym, refl, ap, ◌∙◌, subst, arith}
+use Rattle.std.proofs.Common.{◌≡◌, ℕ, zero, suc, ◌+◌, ◌-◌, ◌≤◌, min, max, Bool, true, false, cond, List, [], ◌∷◌, ◌++◌, map, length, take, drop, Some, None, Ok, Err, Option, sym, refl, ap, ◌∙◌, subst, arith}
 use Rattle.std.proofs.lemmas.List.{map-append}
 use Rattle.std.proofs.lemmas.Bool.{or_parts, ltb-false}
 use Rattle.refusal.specs.declared.Refusal.{Refusal}
@@ -10,7 +10,7 @@ use Rattle.bytecode.specs.declared.instruction.Instruction.TheVariants.{Push, Co
 use Rattle.bytecode.specs.declared.instruction.Word.{Word}
 use Rattle.language.specs.Code.{Slot, bound, waiting, above, code, long, tall, wide, or_else}
 use Rattle.language.specs.Operators.{row_of, prefix_row_of}
-use Rattle.language.specs.Tree.{Tree, flatten, number, truth, name, prefix, binary, choose, bind}
+use Rattle.language.specs.Tree.{Tree, flatten, prefix}
 use Rattle.language.specs.declared.entry.Entry.{Entry}
 use Rattle.language.specs.declared.operator.Operator.{Operator}
 use Rattle.language.specs.declared.operator.Prefix.{Prefix}
@@ -18,7 +18,6 @@ use Rattle.parts.specs.declared.node.Node.TheVariants.{Broken, Number as NumberN
 use Rattle.parts.proofs.Tables.{not_broken, number_table, truth_table, name_table, prefix_table, binary_table, choose_table, bind_table}
 use Rattle.compiler.specs.Emitting.{Adds, Emits}
 use Rattle.compiler.specs.Layouts.{spots_of}
-use Rattle.shapes.specs.Shapes.{shape_of}
 use Rattle.shapes.specs.declared.shape.Shape.{Shape}
 use Rattle.compiler.proofs.Added.{Answer, adds_then, adds_stop, adds_at, adds_as, adds_words}
 use Rattle.shapes.proofs.Measured.{Measures, Roots}
@@ -208,7 +207,7 @@ module _ (es : List Entry) (spots : List ℕ) (high room : ℕ) (b₀ : List Wor
   module _ (p c d : ℕ) (m₁ m₂ : Shape) (i j : Instruction)
       (root : Roots es (IfNode p c d))
       (then_is : Measures (take (d - c) (drop c es)) m₁) (else_is : Measures (take (length es - 1 - d) (drop d es)) m₂)
-      (i-is : i ≡ Branchif (plus (min (m₂.length + 2) 255))) (j-is : j ≡ Branch (plus (min (m₁.length + 1) 255))) where
+      (i_is : i ≡ Branchif (plus (min (m₂.length + 2) 255))) (j_is : j ≡ Branch (plus (min (m₁.length + 1) 255))) where
     pub record Choice (t : Tree) (s : List Slot) : Type 0 where
       pub test : Tree
       pub first : Tree
@@ -232,14 +231,14 @@ module _ (es : List Entry) (spots : List ℕ) (high room : ℕ) (b₀ : List Wor
         let w₁ = none_right (wide v.test) _ w in
         let w₂ = none_right (wide v.first) _ w₁ in
         let w₃ = or_parts _ _ (unmarked _ p (none_right (wide v.second) _ w₂)) in
-        let short-first : long v.first ≤ 254 = ltb-false _ _ w₃.0 in
-        let short-second : long v.second ≤ 253 = ltb-false _ _ w₃.1 in
+        let short_first : long v.first ≤ 254 = ltb-false _ _ w₃.0 in
+        let short_second : long v.second ≤ 253 = ltb-false _ _ w₃.1 in
         let e₁ : m₁.length ≡ long v.first = ap (λ x. x.length) (then_is v.first v.middle) in
         let e₂ : m₂.length ≡ long v.second = ap (λ x. x.length) (else_is v.second v.back) in
         let k₁ : min (m₁.length + 1) 255 ≡ long v.first + 1 = omega arith in
         let k₂ : min (m₂.length + 2) 255 ≡ long v.second + 2 = omega arith in
-        let j' : Branch (plus (long v.first + 1)) ≡ j = sym (j-is ∙ ap (λ x. Branch (plus x)) k₁) in
-        let i' : Branchif (plus (long v.second + 2)) ≡ i = sym (i-is ∙ ap (λ x. Branchif (plus x)) k₂) in
+        let j' : Branch (plus (long v.first + 1)) ≡ j = sym (j_is ∙ ap (λ x. Branch (plus x)) k₁) in
+        let i' : Branchif (plus (long v.second + 2)) ≡ i = sym (i_is ∙ ap (λ x. Branchif (plus x)) k₂) in
         record {
           test = v.test;
           first = v.first;
@@ -261,14 +260,14 @@ module _ (es : List Entry) (spots : List ℕ) (high room : ℕ) (b₀ : List Wor
     pub test_stops : (e : Refusal) (b₁ : List Word) → Emits (take (c - 0) es) spots high room (Err e) b₀ b₁ → Emits es spots high room (Err e) b₀ b₁
     test_stops e b₁ f t s h l k m n =
         let v = choice_view t s h m n in
-        adds_words room (Err e) b₀ b₁ (words s t) _ v.all (adds_stop room e b₀ b₁ (words s v.test) _ (f v.test s v.at_test l k v.low-test v.thin-test))
+        adds_words room (Err e) b₀ b₁ (words s t) _ v.all (adds_stop room e b₀ b₁ (words s v.test) _ (f v.test s v.at_test l k v.low_test v.thin_test))
 
     pub over_else_stops : (e : Refusal) (b₁ b₂ : List Word) → Emits (take (c - 0) es) spots high room (Ok tt) b₀ b₁ → Adds room (Err e) b₁ b₂ (written i ∷ []) →
         Emits es spots high room (Err e) b₀ b₂
     over_else_stops e b₁ b₂ f g t s h l k m n =
         let v = choice_view t s h m n in
         adds_words room (Err e) b₀ b₂ (words s t) _ v.all
-        (adds_then room (Err e) b₀ b₁ b₂ (words s v.test) _ (f v.test s v.at_test l k v.low-test v.thin-test)
+        (adds_then room (Err e) b₀ b₁ b₂ (words s v.test) _ (f v.test s v.at_test l k v.low_test v.thin_test)
         (adds_stop room e b₁ b₂ (written i ∷ []) _ g))
 
     pub else_stops : (e : Refusal) (b₁ b₂ b₃ : List Word) → Emits (take (c - 0) es) spots high room (Ok tt) b₀ b₁ → Adds room (Ok tt) b₁ b₂ (written i ∷ []) →
@@ -276,18 +275,18 @@ module _ (es : List Entry) (spots : List ℕ) (high room : ℕ) (b₀ : List Wor
     else_stops e b₁ b₂ b₃ f g f' t s h l k m n =
         let v = choice_view t s h m n in
         adds_words room (Err e) b₀ b₃ (words s t) _ v.all
-        (adds_then room (Err e) b₀ b₁ b₃ (words s v.test) _ (f v.test s v.at_test l k v.low-test v.thin-test)
+        (adds_then room (Err e) b₀ b₁ b₃ (words s v.test) _ (f v.test s v.at_test l k v.low_test v.thin_test)
         (adds_then room (Err e) b₁ b₂ b₃ (written i ∷ []) _ g
-        (adds_stop room e b₂ b₃ (words s v.second) _ (f' v.second s v.at_second l k v.low_second v.thin-second))))
+        (adds_stop room e b₂ b₃ (words s v.second) _ (f' v.second s v.at_second l k v.low_second v.thin_second))))
 
     pub over_then_stops : (e : Refusal) (b₁ b₂ b₃ b₄ : List Word) → Emits (take (c - 0) es) spots high room (Ok tt) b₀ b₁ → Adds room (Ok tt) b₁ b₂ (written i ∷ []) →
         Emits (take (length es - 1 - d) (drop d es)) spots high room (Ok tt) b₂ b₃ → Adds room (Err e) b₃ b₄ (written j ∷ []) → Emits es spots high room (Err e) b₀ b₄
     over_then_stops e b₁ b₂ b₃ b₄ f g f' g' t s h l k m n =
         let v = choice_view t s h m n in
         adds_words room (Err e) b₀ b₄ (words s t) _ v.all
-        (adds_then room (Err e) b₀ b₁ b₄ (words s v.test) _ (f v.test s v.at_test l k v.low-test v.thin-test)
+        (adds_then room (Err e) b₀ b₁ b₄ (words s v.test) _ (f v.test s v.at_test l k v.low_test v.thin_test)
         (adds_then room (Err e) b₁ b₂ b₄ (written i ∷ []) _ g
-        (adds_then room (Err e) b₂ b₃ b₄ (words s v.second) _ (f' v.second s v.at_second l k v.low_second v.thin-second)
+        (adds_then room (Err e) b₂ b₃ b₄ (words s v.second) _ (f' v.second s v.at_second l k v.low_second v.thin_second)
         (adds_stop room e b₃ b₄ (written j ∷ []) _ g'))))
 
     pub choice_ends : (r : Answer) (b₁ b₂ b₃ b₄ b₅ : List Word) → Emits (take (c - 0) es) spots high room (Ok tt) b₀ b₁ → Adds room (Ok tt) b₁ b₂ (written i ∷ []) →
@@ -296,7 +295,7 @@ module _ (es : List Entry) (spots : List ℕ) (high room : ℕ) (b₀ : List Wor
     choice_ends r b₁ b₂ b₃ b₄ b₅ f g f' g' f'' t s h l k m n =
         let v = choice_view t s h m n in
         adds_words room r b₀ b₅ (words s t) _ v.all
-        (adds_then room r b₀ b₁ b₅ (words s v.test) _ (f v.test s v.at_test l k v.low-test v.thin-test)
+        (adds_then room r b₀ b₁ b₅ (words s v.test) _ (f v.test s v.at_test l k v.low_test v.thin_test)
         (adds_then room r b₁ b₂ b₅ (written i ∷ []) _ g
-        (adds_then room r b₂ b₃ b₅ (words s v.second) _ (f' v.second s v.at_second l k v.low_second v.thin-second)
-        (adds_then room r b₃ b₄ b₅ (written j ∷ []) _ g' (f'' v.first s v.at_first l k v.low_first v.thin-first)))))
+        (adds_then room r b₂ b₃ b₅ (words s v.second) _ (f' v.second s v.at_second l k v.low_second v.thin_second)
+        (adds_then room r b₃ b₄ b₅ (written j ∷ []) _ g' (f'' v.first s v.at_first l k v.low_first v.thin_first)))))

@@ -1,14 +1,14 @@
 -- The whole translation.
-use Rattle.std.proofs.Common.{◌≡◌, ℕ, ◌+◌, ◌≤◌, max, Bool, true, false, cond, ltb, List, [], ◌∷◌, ◌++◌, map, length, Some, None, Ok, Err, Option, sym, refl, ap, ◌∙◌, subst, arith, length-append}
+use Rattle.std.proofs.Common.{◌≡◌, ℕ, ◌+◌, ◌≤◌, Bool, true, false, cond, ltb, List, [], ◌∷◌, ◌++◌, map, length, Some, None, Ok, Err, Option, sym, refl, ap, ◌∙◌, arith, length-append}
 use lib.ListN.{length-map}
 use Rattle.std.proofs.lemmas.Bool.{ltb-false}
 use Rattle.refusal.specs.declared.Refusal.{Refusal}
 use Rattle.bytecode.specs.Words.{written}
 use Rattle.bytecode.specs.declared.instruction.Word.{Word}
-use Rattle.language.specs.Code.{Slot, bound, waiting, code, long, tall, wide, field_slots, translation, branch_refusal, refusal_of}
+use Rattle.language.specs.Code.{Slot, bound, waiting, code, long, tall, field_slots, translation, branch_refusal, refusal_of}
 use Rattle.language.specs.Tree.{Tree, flatten, number, truth, name, prefix, binary, choose, bind}
 use Rattle.language.specs.declared.entry.Entry.{Entry}
-use Rattle.compiler.specs.Emitting.{Adds, Emits}
+use Rattle.compiler.specs.Emitting.{Emits}
 use Rattle.compiler.specs.Layouts.{spots_of}
 use Rattle.shapes.specs.Shapes.{shape_of}
 use Rattle.compiler.specs.Translating.{reason_for}

@@ -39,8 +39,8 @@ fn over_then(words: usize) -> Instruction
 
 // Adds an instruction to the code.
 fn put<M: CodeMemory>(memory: &mut M, instruction: Instruction) -> Result<(), Refusal>
-    ensures same { room memory.new ≡ room memory.old }
-    ensures adds { Adds (room memory.old) result (listed memory.old) (listed memory.new) (written instruction ∷ []) }
+    ensures same { M.room memory.new ≡ M.room memory.old }
+    ensures adds { Adds (M.room memory.old) result (M.listed memory.old) (M.listed memory.new) (written instruction ∷ []) }
 {
     memory.append(instruction.encode())
 }
@@ -51,8 +51,8 @@ fn put_constant<M: CodeMemory>(
     constant: Argument,
     instruction: Instruction,
 ) -> Result<(), Refusal>
-    ensures same { room memory.new ≡ room memory.old }
-    ensures adds { Adds (room memory.old) result (listed memory.old) (listed memory.new) (written Push ∷ (written (Consti constant) ∷ (written instruction ∷ []))) }
+    ensures same { M.room memory.new ≡ M.room memory.old }
+    ensures adds { Adds (M.room memory.old) result (M.listed memory.old) (M.listed memory.new) (written Push ∷ (written (Consti constant) ∷ (written instruction ∷ []))) }
 {
     put(memory, Instruction::Push)?;
     put(memory, Instruction::Consti(constant))?;
@@ -70,8 +70,8 @@ pub(crate) fn emit<M: CodeMemory>(
     ensures height { layout.new.height ≡ layout.old.height }
     ensures bindings { layout.new.bindings ≡ layout.old.bindings }
     ensures spots { newest layout.new.spots layout.new.bindings ≡ newest layout.old.spots layout.old.bindings }
-    ensures same { room memory.new ≡ room memory.old }
-    ensures value { Emits entries.now (newest layout.old.spots layout.old.bindings) layout.old.height (room memory.old) result (listed memory.old) (listed memory.new) }
+    ensures same { M.room memory.new ≡ M.room memory.old }
+    ensures value { Emits entries.now (newest layout.old.spots layout.old.bindings) layout.old.height (M.room memory.old) result (M.listed memory.old) (M.listed memory.new) }
 {
     let n = entries.len();
     match root(entries) {

@@ -40,9 +40,9 @@ fn reason(shape: Shape, room: usize) -> Option<Refusal>
 // Writes the code of the table's tree as the memory's whole list, or refuses and leaves the memory as it was.
 fn write_code<M: CodeMemory>(entries: &[Entry], memory: &mut M) -> Result<Measure, Refusal>
     requires { length entries.now ≤ 512 }
-    ensures same { room memory.new ≡ room memory.old }
-    ensures value { (t : Tree) → entries.now ≡ flatten t → result ≡ answer_of (refusal_of (room memory.old) t) t }
-    ensures code { (t : Tree) → entries.now ≡ flatten t → listed memory.new ≡ code_after (refusal_of (room memory.old) t) t (listed memory.old) }
+    ensures same { M.room memory.new ≡ M.room memory.old }
+    ensures value { (t : Tree) → entries.now ≡ flatten t → result ≡ answer_of (refusal_of (M.room memory.old) t) t }
+    ensures code { (t : Tree) → entries.now ≡ flatten t → M.listed memory.new ≡ code_after (refusal_of (M.room memory.old) t) t (M.listed memory.old) }
     ensures kept { (t : Tree) → entries.now ≡ flatten t → OnErr result (memory.new ≡ memory.old) }
     ensures bounds { IfOk result (λ m. (m.length ≤ 3 * length entries.now) × (8 ≤ m.height) × (m.height ≤ 128)) }
 {
@@ -67,9 +67,9 @@ pub fn translate<M: CodeMemory>(
     gives: ValueType,
     memory: &mut M,
 ) -> Result<Card, Refusal>
-    ensures same { room memory.new ≡ room memory.old }
-    ensures value { (t : Tree) → rule.entry.entries.now ≡ flatten t → Answers (refusal_of (room memory.old) t) gives t result }
-    ensures code { (t : Tree) → rule.entry.entries.now ≡ flatten t → listed memory.new ≡ code_after (refusal_of (room memory.old) t) t (listed memory.old) }
+    ensures same { M.room memory.new ≡ M.room memory.old }
+    ensures value { (t : Tree) → rule.entry.entries.now ≡ flatten t → Answers (refusal_of (M.room memory.old) t) gives t result }
+    ensures code { (t : Tree) → rule.entry.entries.now ≡ flatten t → M.listed memory.new ≡ code_after (refusal_of (M.room memory.old) t) t (M.listed memory.old) }
     ensures kept { (t : Tree) → rule.entry.entries.now ≡ flatten t → OnErr result (memory.new ≡ memory.old) }
 {
     let measure = write_code(rule.entries, memory)?;

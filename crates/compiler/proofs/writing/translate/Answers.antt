@@ -12,10 +12,13 @@ invariant_of-result g c =
     let m = c.in_ok-measure.measure in
     let told = c.in_ok-measure.ensures in
     let few = c.args.rule.few in
-    let bounds = told.bounds in (
-      ∥∥₁_elim c.args.rule.formed le_prop (λ f. some_words (refusal_of room f.tree) f.tree m (told.value f.tree f.table)),
-      (omega (arith, bounds.0), (bounds.1, (bounds.2, tt))),
-    )
+    let bounds = told.bounds in
+    record {
+      some = ∥∥₁_elim c.args.rule.formed le_prop (λ f. some_words (refusal_of room f.tree) f.tree m (told.value f.tree f.table));
+      short = omega (arith, bounds.0);
+      low = bounds.1;
+      high = bounds.2;
+    }
 
 pub returns-in_err-measure : goal.returns-in_err-measure
 returns-in_err-measure g c =
