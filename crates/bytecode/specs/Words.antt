@@ -1,5 +1,5 @@
 -- How instructions are written as words of three bytes, and read back.
-use Rattle.std.specs.Prelude.{ℕ, zero, suc, Bool, true, false, cond, List, [], ◌∷◌, ◌++◌, Some, None, Option}
+use Rattle.std.specs.Prelude.{ℕ, zero, suc, true, false, cond, List, [], ◌∷◌, Some, None, Option}
 use Rattle.std.proofs.Common.{zero-le, suc-le-suc}
 use Rattle.std.specs.List.{slice_get}
 use Rattle.std.specs.Option.{option_map}

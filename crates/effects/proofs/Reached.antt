@@ -5,7 +5,7 @@ use Rattle.std.specs.List.{slice_get}
 use Rattle.bytecode.specs.Words.{plus}
 use Rattle.bytecode.specs.declared.instruction.Instruction.{Instruction}
 use Rattle.bytecode.specs.declared.instruction.Instruction.TheVariants.{Push, Consti, Acc, Popi, Branch, Branchif}
-use Rattle.language.specs.Code.{Slot, bound, waiting, above, code, long, tall, height, translation, field_slots}
+use Rattle.language.specs.Code.{Slot, bound, waiting, above, code, long, tall, translation, field_slots}
 use Rattle.language.specs.Operators.{row_of, prefix_row_of}
 use Rattle.language.specs.Tree.{Tree, number, truth, name, prefix, binary, choose, bind}
 use Rattle.language.specs.declared.operator.Operator.{Operator}

@@ -9,7 +9,7 @@ use Rattle.language.specs.Tree.{Tree, number, truth, name, binary, choose, bind,
 use Rattle.language.specs.Typing.{type_of}
 use Rattle.language.specs.declared.operator.Operator.TheVariants.{AtMost, Plus, Times}
 use Rattle.language.specs.declared.operator.ValueType.TheVariants.{Number}
-use Rattle.arithmetic.specs.Words.{Ops, round_ops, ranged_ops}
+use Rattle.arithmetic.specs.Words.{round_ops, ranged_ops}
 use Rattle.machine.specs.Runs.{answered}
 use Rattle.machine.specs.declared.registers.Finished.{Finished}
 use Rattle.machine.specs.declared.registers.Halt.{Halt}

@@ -5,7 +5,7 @@ use Rattle.std.proofs.lemmas.Bool.{cond-true, cond-false, cases_lt, le-ltb}
 use Rattle.refusal.specs.declared.Refusal.{Refusal}
 use Rattle.refusal.specs.declared.Refusal.TheVariants.{TextTooLong, TooManyEntries}
 use Rattle.language.specs.Fold.{State, Step, feed, feeds, followed, prefixed, fresh}
-use Rattle.language.specs.Reading.{is_last, tokens_from, tokens, parse, fitted, reading}
+use Rattle.language.specs.Reading.{is_last, tokens_from, parse, fitted}
 use Rattle.language.specs.Tokens.{Lexeme, lexeme, after, begins, scanned}
 use Rattle.language.specs.declared.entry.Entry.{Entry}
 use Rattle.first_error.specs.Law.{place_of, extent, SameUpTo, Placed, Decides, ReadingDecides}

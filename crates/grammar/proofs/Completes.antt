@@ -1,13 +1,12 @@
 -- What the grammar derives is read.
-use Rattle.std.proofs.Common.{◌≡◌, ℕ, zero, suc, ◌+◌, ◌-◌, ◌<◌, ◌≤◌, Bool, true, false, cond, eqb, ltb, leb, List, [], ◌∷◌, ◌++◌, length, take, drop, Some, Ok, Err, Result, sym, refl, ap, ◌∙◌, subst, append_assoc, arith, length-append}
+use Rattle.std.proofs.Common.{◌≡◌, ℕ, suc, ◌+◌, ◌-◌, ◌<◌, ◌≤◌, true, List, [], ◌∷◌, ◌++◌, length, Ok, Err, Result, sym, refl, ap, ◌∙◌, append_assoc, arith, length-append}
 use Rattle.std.proofs.lemmas.List.{append-nil}
 use Rattle.std.proofs.lemmas.Bool.{cond-true, cond-false, le-leb, lt-ltb, eq-eqb, ne_eqb}
 use Rattle.refusal.specs.declared.Refusal.{Refusal}
 use Rattle.refusal.specs.declared.Refusal.TheVariants.{Unexpected}
 use Rattle.bytecode.specs.Words.{plus}
 use Rattle.language.specs.Frames.{frame, start, above, left, closed, scoped, leaving, deep, binds, joint}
-use Rattle.language.specs.Fold.{State, state, Step, named as namedTo, opened, enter, enter_whole, ended, endings, ends, joined, then_of, else_of, in_of, turned, brought, shut, finished, sequel_of, gone_on, duly, feed, feeds, followed, prefixed as prefixedBy, fresh}
-use Rattle.language.specs.Names.{position}
+use Rattle.language.specs.Fold.{State, state, Step, named as named_to, opened, enter, enter_whole, ended, endings, joined, then_of, else_of, in_of, turned, brought, shut, finished, sequel_of, gone_on, duly, feeds, followed, prefixed as prefixed_by}
 use Rattle.language.specs.Tokens.{Lexeme}
 use Rattle.language.specs.Tree.{Tree, number, truth, name, prefix, binary, choose, bind, size, entry, flatten}
 use Rattle.language.specs.declared.entry.Entry.{Entry}
@@ -22,16 +21,16 @@ use Rattle.language.specs.declared.operator.Operator.TheVariants.{Equal}
 use Rattle.language.specs.declared.operator.Prefix.{Prefix as PrefixOperator}
 use Rattle.language.specs.declared.token.TokenKind.{TokenKind}
 use Rattle.language.specs.declared.token.TokenKind.TheVariants.{Number, Truth, Name, Binary, Prefix, If, Then, Else, Let, In, Open, Close, End}
-use Rattle.grammar.specs.Grammar.{level, left_level, Derives, constant, truth_value, named, parens, prefixed, join, if_else, let_in, tighter, Rule}
+use Rattle.grammar.specs.Grammar.{level, left_level, Derives, constant, truth_value, named, parens, prefixed, join, if_else, let_in, tighter}
 use Rattle.grammar.specs.Laws.{Complete}
-use Rattle.grammar.proofs.Frames.{level_low, level_top, ends_left, left_low, left_top, left_none, closed_none, scoped_none, left_left, scoped_scoped, closed_closed}
+use Rattle.grammar.proofs.Frames.{level_low, level_top, ends_left, left_low, left_none, closed_none, scoped_none, left_left, scoped_scoped, closed_closed}
 use Rattle.grammar.proofs.Trees.{length-flatten}
 
-prefixed_none : (r : Result (List Entry) Refusal) → prefixedBy [] r ≡ r
+prefixed_none : (r : Result (List Entry) Refusal) → prefixed_by [] r ≡ r
 prefixed_none (Ok es) = refl
 prefixed_none (Err e) = refl
 
-prefixed_twice : (xs ys : List Entry) (r : Result (List Entry) Refusal) → prefixedBy xs (prefixedBy ys r) ≡ prefixedBy (xs ++ ys) r
+prefixed_twice : (xs ys : List Entry) (r : Result (List Entry) Refusal) → prefixed_by xs (prefixed_by ys r) ≡ prefixed_by (xs ++ ys) r
 prefixed_twice xs ys (Ok es) = ap Ok (sym (append_assoc xs ys es))
 prefixed_twice xs ys (Err e) = refl
 
@@ -40,7 +39,7 @@ record Reached (k : ℕ) (fs : List Frame) (ps g : List (List ℕ)) (n : ℕ) (t
   frames : List Frame
   scope : List (List ℕ)
   out : List Entry
-  runs : (rest : List Lexeme) → feeds (state fs ps g Operand n) (ts ++ rest) ≡ prefixedBy out (feeds (state frames ps scope OperatorDue (n + length out)) rest)
+  runs : (rest : List Lexeme) → feeds (state fs ps g Operand n) (ts ++ rest) ≡ prefixed_by out (feeds (state frames ps scope OperatorDue (n + length out)) rest)
   stays : left k frames ≡ left k fs
   keeps : scoped k frames scope ≡ scoped k fs g
   adds : out ++ closed k frames (n + length out) ≡ flatten t ++ closed k fs (n + size t)
@@ -86,7 +85,7 @@ reach_tighter j k n fs ps g ts t le r =
 
 -- an operand that leaves the frames as they were
 atom : (k n : ℕ) (fs : List Frame) (ps g : List (List ℕ)) (ts : List Lexeme) (t : Tree) →
-    ((rest : List Lexeme) → feeds (state fs ps g Operand n) (ts ++ rest) ≡ prefixedBy (flatten t) (feeds (state fs ps g OperatorDue (n + size t)) rest)) →
+    ((rest : List Lexeme) → feeds (state fs ps g Operand n) (ts ++ rest) ≡ prefixed_by (flatten t) (feeds (state fs ps g OperatorDue (n + size t)) rest)) →
     Reached k fs ps g n ts t
 atom k n fs ps g ts t r =
     let m : n + size t ≡ n + length (flatten t) = omega (arith, length-flatten t) in
@@ -94,7 +93,7 @@ atom k n fs ps g ts t r =
       frames = fs;
       scope = g;
       out = flatten t;
-      runs = λ rest. r rest ∙ ap (λ i. prefixedBy (flatten t) (feeds (state fs ps g OperatorDue i) rest)) m;
+      runs = λ rest. r rest ∙ ap (λ i. prefixed_by (flatten t) (feeds (state fs ps g OperatorDue i) rest)) m;
       stays = refl;
       keeps = refl;
       adds = ap (λ i. flatten t ++ closed k fs i) (sym m);
@@ -123,7 +122,7 @@ goes_on : (j n : ℕ) (fs : List Frame) (ps g : List (List ℕ)) (ts rest : List
     Reached j fs ps g n ts t → left j fs ≡ fs → scoped j fs g ≡ g → closed j fs (n + size t) ≡ [] → x.kind ≡ k →
     ((s : State) → gone_on (sequel_of k) s k x.place ≡ step (ended j s) (endings j s)) →
     ((es : List Entry) → step (state fs ps g OperatorDue (n + size t)) es ≡ Ok (u, es)) →
-    feeds (state fs ps g Operand n) (ts ++ x ∷ rest) ≡ prefixedBy (flatten t) (feeds u rest)
+    feeds (state fs ps g Operand n) (ts ++ x ∷ rest) ≡ prefixed_by (flatten t) (feeds u rest)
 goes_on j n fs ps g ts rest t x k u step a lj sj cj ke ge oe =
     let s = state a.frames ps a.scope OperatorDue (n + length a.out) in
     let es = closed j a.frames (n + length a.out) in
@@ -134,16 +133,16 @@ goes_on j n fs ps g ts rest t x k u step a lj sj cj ke ge oe =
     ∙ ap (λ y. state fs ps y OperatorDue (n + length a.out + length es)) (a.keeps ∙ sj)
     ∙ ap (λ y. state fs ps g OperatorDue y) long in
     a.runs (x ∷ rest)
-    ∙ ap (prefixedBy a.out)
+    ∙ ap (prefixed_by a.out)
     (begins_with s x k rest ke ∙ ap (λ i. followed i (λ v. feeds v rest)) (ge s ∙ ap (λ i. step i es) settled ∙ oe es))
     ∙ prefixed_twice a.out es (feeds u rest)
-    ∙ ap (λ y. prefixedBy y (feeds u rest)) all
+    ∙ ap (λ y. prefixed_by y (feeds u rest)) all
 
 -- a frame opens behind the entries xs, and ends with what it holds
 wrap : (k n m : ℕ) (f : Frame) (fs : List Frame) (ps g h : List (List ℕ)) (ts us : List Lexeme) (t v : Tree) (xs : List Entry) (e : Entry) →
     Reached k (f ∷ fs) ps h m us v → binds k f.mark ≡ true → leaving f.mark h ≡ g → m ≡ n + length xs → joint f (m + size v) ≡ e →
     flatten t ≡ xs ++ (flatten v ++ e ∷ []) →
-    ((rest : List Lexeme) → feeds (state fs ps g Operand n) (ts ++ rest) ≡ prefixedBy xs (feeds (state (f ∷ fs) ps h Operand m) (us ++ rest))) →
+    ((rest : List Lexeme) → feeds (state fs ps g Operand n) (ts ++ rest) ≡ prefixed_by xs (feeds (state (f ∷ fs) ps h Operand m) (us ++ rest))) →
     Reached k fs ps g n ts t
 wrap k n m f fs ps g h ts us t v xs e c b ge me je fe re =
     let more : m + length c.out ≡ n + length (xs ++ c.out) = simp length-append (omega arith) in
@@ -155,9 +154,9 @@ wrap k n m f fs ps g h ts us t v xs e c b ge me je fe re =
       out = xs ++ c.out;
       runs = λ rest.
           re rest
-          ∙ ap (prefixedBy xs) (c.runs rest)
+          ∙ ap (prefixed_by xs) (c.runs rest)
           ∙ prefixed_twice xs c.out _
-          ∙ ap (λ i. prefixedBy (xs ++ c.out) (feeds (state c.frames ps c.scope OperatorDue i) rest)) more;
+          ∙ ap (λ i. prefixed_by (xs ++ c.out) (feeds (state c.frames ps c.scope OperatorDue i) rest)) more;
       stays = c.stays ∙ cond-true _ _ _ b;
       keeps = c.keeps ∙ cond-true _ (scoped k fs (leaving f.mark h)) h b ∙ ap (scoped k fs) ge;
       adds =
@@ -237,7 +236,7 @@ reach_if d n fs ps g x y z ts us vs t u v h xe ye ze a b c =
     ∙ first_token (state fs ps g Operand n) _ x If (ts ++ y ∷ (us ++ z ∷ (vs ++ rest))) xe (entered_whole Condition p d Operand fs ps g n h)
     ∙ goes_on 0 n (frame Condition p n n ∷ fs) ps g ts (us ++ z ∷ (vs ++ rest)) t y Then (state (frame ThenMark p n m ∷ fs) ps g Operand m) (turned then_of y.place) a
     refl refl refl ye (λ s. refl) (λ es. refl)
-    ∙ ap (prefixedBy (flatten t))
+    ∙ ap (prefixed_by (flatten t))
     (goes_on 0 m (frame ThenMark p n m ∷ fs) ps g us (vs ++ rest) u z Else (state (frame ElseMark p n l ∷ fs) ps g Operand l) (turned else_of z.place) b
     refl refl refl ze (λ s. refl) (λ es. refl))
     ∙ prefixed_twice (flatten t) (flatten u) _)
@@ -274,7 +273,7 @@ reach (named {g} x {i} e f) fs ps n h =
     atom 6 n fs ps g (x ∷ []) (name i x.place)
     (λ rest.
     begins_with (state fs ps g Operand n) x Name rest e
-    ∙ ap (λ j. followed (namedTo j x.place (state fs ps g Operand n)) (λ u. feeds u rest)) f)
+    ∙ ap (λ j. followed (named_to j x.place (state fs ps g Operand n)) (λ u. feeds u rest)) f)
 reach (parens {g} {d} x y {ts} {t} e r f) fs ps n h =
     reach_parens d n fs ps g x y ts t h.deeper e f
     (reach r (frame Paren x.place n n ∷ fs) ps n (fits_in Paren x.place n n d fs refl refl h.deeper))

@@ -1,5 +1,5 @@
 -- The examples, by reading them.
-use Rattle.std.proofs.Common.{◌≡◌, refl}
+use Rattle.std.proofs.Common.{refl}
 use Rattle.grammar.specs.Examples.{Examples}
 use Rattle.grammar.proofs.Texts.{text_exact}
 

@@ -1,12 +1,12 @@
 -- What is read, the grammar derives.
-use Rattle.std.proofs.Common.{◌≡◌, ℕ, zero, suc, ◌+◌, ◌-◌, ◌<◌, ◌≤◌, Bool, true, false, cond, eqb, ltb, leb, List, [], ◌∷◌, ◌++◌, length, take, drop, Some, None, Ok, Err, Option, Result, sym, refl, ap, ◌∙◌, subst, append_assoc, arith, length-append}
+use Rattle.std.proofs.Common.{◌≡◌, ℕ, zero, suc, ◌+◌, ◌<◌, ◌≤◌, cond, eqb, ltb, List, [], ◌∷◌, ◌++◌, length, take, drop, Some, None, Ok, Err, Option, Result, sym, refl, ap, ◌∙◌, subst, append_assoc, arith, length-append}
 use Rattle.std.proofs.lemmas.List.{append-nil}
 use Rattle.std.proofs.lemmas.Bool.{cond-true, cond-false, ltb-true, eqb-true, eqb-false}
 use Rattle.refusal.specs.declared.Refusal.{Refusal}
 use Rattle.refusal.specs.declared.Refusal.TheVariants.{Unexpected, TooDeep}
 use Rattle.bytecode.specs.Words.{plus}
 use Rattle.language.specs.Frames.{frame, start, above, left, closed, scoped, deep}
-use Rattle.language.specs.Fold.{State, state, Step, going, named as namedTo, opened, enter, enter_whole, misplaced, opening_of, begun, remarked, bound, is_equal_by, is_equal, equated, ended, endings, ends, joined, then_of, else_of, in_of, turn_top, brought, shut_top, finish_top, sequel_of, gone_on, duly, feed, feeds, followed, prefixed, fresh}
+use Rattle.language.specs.Fold.{State, state, Step, going, named as named_to, opened, enter, enter_whole, opening_of, begun, remarked, bound, equated, ended, endings, ends, joined, then_of, else_of, in_of, turn_top, brought, shut_top, finish_top, sequel_of, gone_on, duly, feed, feeds, followed, prefixed, fresh}
 use Rattle.language.specs.Names.{position}
 use Rattle.language.specs.Tokens.{Lexeme}
 use Rattle.language.specs.Tree.{Tree, number, truth, name, entry, flatten}
@@ -116,7 +116,7 @@ leafs s v out ys ts x t e r fe de h =
     moves _ v _ ys out _ _ (got g) refl h
 
 names_in : (s v : State) (out ys : List Entry) (ts : List Lexeme) (x : Lexeme) (o : Option ℕ) → Waits s out ts → x.kind ≡ Name →
-    position x.text s.scope ≡ o → namedTo o x.place s ≡ Ok (v, ys) → Reads v (out ++ ys) (ts ++ x ∷ [])
+    position x.text s.scope ≡ o → named_to o x.place s ≡ Ok (v, ys) → Reads v (out ++ ys) (ts ++ x ∷ [])
 names_in s v out ys ts x None r k f e = err_ok _ (v, ys) e
 names_in s v out ys ts x (Some i) r k f e = leafs s v out ys ts x (name i x.place) (entry NameKind (plus i) 1 x.place) r refl (λ d. named x k f) e
 

@@ -1,19 +1,19 @@
 -- Tokens have at most one tree, and the laws over texts.
-use Rattle.std.proofs.Common.{◌≡◌, ℕ, zero, suc, ◌+◌, ◌<◌, ◌≤◌, min, Bool, true, false, cond, ◌&&◌, ◌||◌, eqb, ltb, leb, ◌⊎◌, List, [], ◌∷◌, ◌++◌, length, get_or, drop, Some, None, Ok, Err, Option, Result, sym, refl, ap, ◌∙◌, subst, inl, inr, arith, length-drop}
+use Rattle.std.proofs.Common.{◌≡◌, ℕ, zero, suc, ◌+◌, ◌<◌, ◌≤◌, min, Bool, true, false, cond, ◌&&◌, ◌||◌, eqb, ltb, leb, List, [], ◌∷◌, ◌++◌, length, get_or, drop, Some, None, Ok, Err, Option, Result, sym, refl, ap, ◌∙◌, subst, inl, inr, arith}
 use Rattle.std.proofs.lemmas.List.{drop_all}
 use Rattle.std.proofs.lemmas.Bool.{cond-true, cond-false, true≢false, both_ways, eqb-false, or_left, cases_lt, ltb-false, le-ltb}
 use Rattle.refusal.specs.declared.Refusal.{Refusal}
 use Rattle.refusal.specs.declared.Refusal.TheVariants.{TextTooLong, TooManyEntries}
 use Rattle.language.specs.Fold.{State, Step, duly, feed, feeds, followed, prefixed, fresh}
-use Rattle.language.specs.Reading.{is_last, tokens_from, tokens, parse, fitted, reading}
-use Rattle.language.specs.Tokens.{Lexeme, lexeme, after, begins, scanned, begun, is_blank, is_digit, is_small, is_word, is_minus, two_mark, one_mark, mark_by, run_of}
-use Rattle.language.specs.Tree.{Tree, size, flatten}
+use Rattle.language.specs.Reading.{is_last, tokens_from, parse, fitted}
+use Rattle.language.specs.Tokens.{Lexeme, lexeme, after, begins, scanned, begun, is_digit, is_small, is_word, is_minus, two_mark, one_mark, mark_by, run_of}
+use Rattle.language.specs.Tree.{flatten}
 use Rattle.language.specs.declared.entry.Entry.{Entry}
 use Rattle.language.specs.declared.frame.Due.{Due}
 use Rattle.language.specs.declared.frame.Due.TheVariants.{Operand, Binder as BinderDue, Equals, Operator as OperatorDue}
 use Rattle.language.specs.declared.token.TokenKind.{TokenKind}
 use Rattle.language.specs.declared.token.TokenKind.TheVariants.{Number, Truth, Name, Binary, Prefix, If, Then, Else, Let, In, Open, Close, End, TooLarge, Bad}
-use Rattle.grammar.specs.Laws.{Endless, Means, Parsed, Read, Unambiguous, TextSound, TextExact, TextComplete, TextUnambiguous, TextRefused, ReadingSound, ReadingComplete}
+use Rattle.grammar.specs.Laws.{Endless, Means, Unambiguous, TextSound, TextExact, TextComplete, TextUnambiguous, TextRefused, ReadingSound, ReadingComplete}
 use Rattle.grammar.proofs.Bounds.{closed}
 use Rattle.grammar.proofs.Completes.{complete}
 use Rattle.grammar.proofs.Frames.{by_cases}

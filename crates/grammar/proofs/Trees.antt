@@ -1,14 +1,11 @@
 -- A table is that of one tree.
-use Rattle.std.proofs.Common.{◌≡◌, ℕ, zero, suc, ◌+◌, Bool, true, false, cond, List, [], ◌∷◌, ◌++◌, length, sym, refl, ap, ◌∙◌, append_assoc, arith, length-append}
+use Rattle.std.proofs.Common.{◌≡◌, ℕ, zero, suc, Bool, true, false, List, [], ◌∷◌, ◌++◌, length, sym, refl, ap, ◌∙◌, append_assoc, arith, length-append}
 use Rattle.std.proofs.lemmas.List.{append-nil}
-use Rattle.bytecode.specs.Words.{plus}
 use Rattle.bytecode.specs.declared.argument.Argument.{Argument}
-use Rattle.language.specs.Tree.{Tree, number, truth, name, prefix, binary, choose, bind, size, entry, flatten}
+use Rattle.language.specs.Tree.{Tree, number, truth, name, prefix, binary, choose, bind, size, flatten}
 use Rattle.language.specs.declared.entry.Entry.{Entry}
 use Rattle.language.specs.declared.entry.Kind.{Kind}
 use Rattle.language.specs.declared.entry.Kind.TheVariants.{Blank, Number, Truth, Name, Prefix, Binary, If, Let}
-use Rattle.language.specs.declared.operator.Operator.{Operator}
-use Rattle.language.specs.declared.operator.Prefix.{Prefix as PrefixOperator}
 use Rattle.grammar.specs.Laws.{Faithful, Sized}
 
 pub length-flatten : (t : Tree) → length (flatten t) ≡ size t

@@ -1,5 +1,5 @@
 -- One step of the machine, over any arithmetic.
-use Rattle.std.specs.Prelude.{ℕ, zero, suc, ◌+◌, Bool, cond, ◌&&◌, List, [], ◌∷◌, length, drop, ℤ, pos, negsuc, ◌+ℤ◌, Some, None, Ok, Err, Option, Result, nat_le, nat_lt, slice_set}
+use Rattle.std.specs.Prelude.{ℕ, zero, suc, ◌+◌, cond, ◌&&◌, List, [], ◌∷◌, length, drop, ℤ, pos, negsuc, ◌+ℤ◌, Some, None, Ok, Err, Option, Result, nat_le, nat_lt, slice_set}
 use Rattle.std.specs.List.{slice_get}
 use Rattle.arithmetic.specs.Words.{Ops, naught, unit, truth, whole}
 use Rattle.bytecode.specs.Words.{instruction_in}

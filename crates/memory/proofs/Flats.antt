@@ -1,15 +1,13 @@
 -- Words in bytes, one read and one written.
-use Rattle.std.proofs.Common.{◌≡◌, ℕ, zero, suc, ◌+◌, ◌*◌, ◌/◌, ◌<◌, ◌≤◌, min, true, cond, ltb, List, [], ◌∷◌, ◌++◌, map, length, get_or, set, Some, None, Ok, Err, sym, refl, ap, ◌∙◌, subst, arith, length-set}
+use Rattle.std.proofs.Common.{◌≡◌, ℕ, zero, suc, ◌+◌, ◌*◌, ◌<◌, ◌≤◌, true, ltb, List, [], ◌∷◌, ◌++◌, map, length, get_or, set, Some, None, Ok, Err, sym, refl, ap, ◌∙◌, subst, arith, length-set}
 use Rattle.std.specs.List.{slice_get, range_with_len}
 use Rattle.std.proofs.lemmas.List.FromFn.{length-map-range_with_len, get_or-map-range_with_len, map-range_with_len_more}
 use Rattle.std.proofs.lemmas.List.{get_or-set_same, get_or-set_other}
 use Rattle.std.proofs.lemmas.Option.{slice_get-get_or, slice_get_past}
 use Rattle.std.proofs.lemmas.Bool.{lt-ltb, cond-true}
 use Rattle.bytecode.specs.declared.instruction.Word.{Word}
-use Rattle.bytecode.specs.Words.{word}
 use Rattle.refusal.specs.declared.Refusal.TheVariants.{MemoryFull}
-use Rattle.memory.specs.Lists.{answered, appended}
-use Rattle.memory.specs.Flat.{word_at, words, room_in, put, put_in, Free}
+use Rattle.memory.specs.Flat.{word_at, words, room_in, put, Free}
 
 -- there are as many words as are counted
 pub length-words : (bytes : List ℕ) (n : ℕ) → length (words bytes n) ≡ n

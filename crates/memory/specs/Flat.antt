@@ -4,7 +4,6 @@ use Rattle.std.specs.List.{range_with_len}
 use Rattle.bytecode.specs.declared.instruction.Word.{Word}
 use Rattle.bytecode.specs.Words.{word}
 use Rattle.refusal.specs.declared.Refusal.{Refusal}
-use Rattle.refusal.specs.declared.Refusal.TheVariants.{MemoryFull}
 use Rattle.memory.specs.Lists.{answered, appended}
 
 abbrev pub word_at : List ℕ → ℕ → Word

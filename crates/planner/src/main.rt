@@ -6,7 +6,6 @@
 mod pointing;
 mod sentence;
 
-use anyhow::anyhow;
 use bytecode::Argument;
 use language::{Entry, Kind, ValueType};
 use planning::{Plan, place, plan};
@@ -15,6 +14,7 @@ use refusal::Refusal;
 use sentence::sentence;
 use std::alloc::Global;
 use std::io::{Read, Write};
+use std::process::ExitCode;
 use std::{env, fs};
 
 const USAGE: &str =
@@ -103,10 +103,10 @@ fn run(rt: &HostRuntime) -> anyhow::Result<bool> {
     }
 }
 
-fn main(rt: HostRuntime) -> anyhow::Result<()> {
-    match run(&rt) {
-        Ok(true) => Ok(()),
-        Ok(false) => Err(anyhow!("no listing")),
-        Err(error) => Err(error),
+fn main(rt: HostRuntime) -> anyhow::Result<ExitCode> {
+    if run(&rt)? {
+        Ok(ExitCode::SUCCESS)
+    } else {
+        Ok(ExitCode::FAILURE)
     }
 }

@@ -1,5 +1,5 @@
 -- The tokens of a printed tree have that tree, but for the places.
-use Rattle.std.proofs.Common.{◌≡◌, ℕ, zero, suc, ◌+◌, ◌<◌, ◌≤◌, min, true, false, List, [], ◌∷◌, ◌++◌, length, codes, sym, refl, ap, ◌∙◌, subst, arith}
+use Rattle.std.proofs.Common.{◌≡◌, ℕ, zero, suc, ◌+◌, ◌≤◌, min, false, List, [], ◌∷◌, ◌++◌, length, codes, sym, refl, ap, ◌∙◌, subst, arith}
 use Rattle.language.specs.Reading.{reading}
 use Rattle.language.specs.Tokens.{Lexeme}
 use Rattle.language.specs.Tree.{Tree, number, truth, name, prefix, binary, choose, bind, size, flatten}
@@ -12,7 +12,7 @@ use Rattle.grammar.proofs.Texts.{reading_complete}
 use Rattle.grammar.proofs.Trees.{faithful}
 use Rattle.printing.specs.Printing.{let_name, lets, name_at, number_word, truth_word, prefix_word, operator_word, leaf, enclosed, words, printed, around, nested, Small, unplaced, ReadsBack, Distinct}
 use Rattle.printing.proofs.Lexing.{Good, kind_of, AllGood, good_append, lex, lexed, reach, lexed_append, finish, line_lexes}
-use Rattle.printing.proofs.Words.{Named, good_if, good_then, good_else, good_let, good_in, good_open, good_close, good_truth, kind_truth, good_prefix, kind_prefix, good_operator, kind_operator, good_number, good_let_name, name_named, name_position}
+use Rattle.printing.proofs.Words.{good_if, good_then, good_else, good_let, good_in, good_open, good_close, good_truth, kind_truth, good_prefix, kind_prefix, good_operator, kind_operator, good_number, good_let_name, name_named, name_position}
 
 -- words that have the tree t at the level l, under k lets, from the place p on
 record Made (l k d p : ℕ) (ws : List (List ℕ)) (t : Tree) : Type 0 where

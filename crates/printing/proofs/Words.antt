@@ -1,10 +1,10 @@
 -- The words of a text scan as what they are, and names stand for their bindings.
-use Rattle.std.proofs.Common.{◌≡◌, ℕ, zero, suc, ◌+◌, ◌^◌, ◌<◌, ◌≤◌, Bool, true, false, cond, ◌&&◌, ◌||◌, eqb, ltb, leb, List, [], ◌∷◌, ◌++◌, length, get_or, take, drop, Some, None, codes, decimal, Option, sym, refl, ap, ◌∙◌, subst, add-one, arith, lit<}
+use Rattle.std.proofs.Common.{◌≡◌, ℕ, zero, suc, ◌+◌, ◌^◌, ◌<◌, ◌≤◌, Bool, true, false, cond, ◌&&◌, ◌||◌, eqb, ltb, leb, List, [], ◌∷◌, ◌++◌, length, get_or, take, Some, codes, decimal, sym, refl, ap, ◌∙◌, subst, add-one, arith}
 use Rattle.std.proofs.lemmas.Fmt.{digits_decimal, digits_value-decimal, decimal_digit, decimal_nonempty, first_decimal, decimal_injective}
 use Rattle.std.proofs.lemmas.Slice.Eq.{bytes_eq-Decides}
 use Rattle.std.proofs.lemmas.List.{take_at, get_or_append_left, length-append}
 use Rattle.std.proofs.lemmas.Str.Parse.{IsNumeralModel, numerals_by_fold, tells_all_ascii_digits}
-use Rattle.std.proofs.lemmas.Bool.{cond-true, cond-false, and_from, and_left, and_right, or_right, or_from, le-leb, lt-leb, le-ltb, ne_eqb, both_ways}
+use Rattle.std.proofs.lemmas.Bool.{cond-true, cond-false, and_from, and_right, or_right, or_from, le-leb, le-ltb, ne_eqb}
 use Rattle.std.specs.Option.{option_map}
 use Rattle.std.specs.Int.{IsInRange}
 use Rattle.std.specs.Str.{all_ascii_digits, bytes_eq}
@@ -13,7 +13,7 @@ use Rattle.bytecode.specs.declared.argument.Argument.{Argument}
 use Rattle.bytecode.proofs.Words.{argument_back}
 use Rattle.language.specs.Names.{field_names, find, position}
 use Rattle.language.specs.Reading.{is_last}
-use Rattle.language.specs.Tokens.{scanned, begun, numeral, numeral_at, number_by, word, word_at, longer, mark, is_blank, is_digit, is_small, is_word, is_minus, run_of, value_from, sign_of}
+use Rattle.language.specs.Tokens.{scanned, begun, numeral, numeral_at, number_by, word, word_at, longer, is_blank, is_digit, is_small, is_word, is_minus, run_of, value_from, sign_of}
 use Rattle.language.specs.declared.operator.Operator.{Operator}
 use Rattle.language.specs.declared.operator.Operator.TheVariants.{Or, And, Equal, AtMost, Plus, Times}
 use Rattle.language.specs.declared.operator.Prefix.{Prefix as PrefixOperator}

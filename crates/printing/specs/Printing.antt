@@ -1,5 +1,5 @@
 -- A rule as a text: each word and a blank, and each operand that is no leaf in parentheses.
-use Rattle.std.specs.Prelude.{◌≡◌, ℕ, zero, suc, ◌+◌, ◌≤◌, min, max, Bool, true, false, cond, List, [], ◌∷◌, ◌++◌, length, Ok, codes, decimal, slice_index_or}
+use Rattle.std.specs.Prelude.{◌≡◌, ℕ, zero, suc, ◌≤◌, min, max, Bool, true, false, cond, List, [], ◌∷◌, ◌++◌, length, Ok, codes, decimal, slice_index_or}
 use Rattle.bytecode.specs.declared.argument.Argument.{Argument}
 use Rattle.language.specs.Names.{field_names}
 use Rattle.language.specs.Reading.{reading}

@@ -23,7 +23,7 @@ use Rattle.simulation.proofs.Reached.{Comes, comes_join, comes_one, comes_on, st
 use Rattle.simulation.proofs.Typed.{Well, values, Agree, agree_at, above_is}
 
 holds_truth : {W : Type 0} (ops : Ops W) → Lawful ops → (b : Bool) → holds ops (truth_word ops b) ≡ b
-holds_truth ops law true = ap not law.one-other
+holds_truth ops law true = ap not law.one_other
 holds_truth ops law false = ap not law.zero_same
 
 -- `||` on any two words

@@ -1,5 +1,4 @@
-use Rattle.std.proofs.Common.{◌≡◌, ◌≤◌, length, get_or, Some, sym, ◌∙◌, rules}
-use Rattle.bytecode.specs.Words.{instruction_of}
+use Rattle.std.proofs.Common.{◌≤◌, length, sym, ◌∙◌, rules}
 use Rattle.bytecode.proofs.Words.{decodes, decodes_only}
 use Rattle.bytecode.proofs.coding.decode.Goals as goal
 

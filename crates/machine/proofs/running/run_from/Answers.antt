@@ -1,4 +1,4 @@
-use Rattle.std.proofs.Common.{◌≡◌, take, Some, None, sym, refl, ap, ◌∙◌}
+use Rattle.std.proofs.Common.{take, Some, None, sym, refl, ap, ◌∙◌}
 use Rattle.refusal.specs.declared.Refusal.TheVariants.{BudgetSpent}
 use Rattle.machine.specs.Runs.{answer}
 use Rattle.machine.proofs.Turns.{ends, stands, spends, refuses, goes_on}

@@ -1,4 +1,4 @@
-use Rattle.std.proofs.Common.{◌≡◌, sym, subst}
+use Rattle.std.proofs.Common.{sym, subst}
 use Rattle.machine.specs.Steps.{performed, became}
 use Rattle.machine.specs.Slices.{Did}
 use Rattle.machine.proofs.step.perform.Goals as goal

@@ -22,7 +22,7 @@ invariant_of-rule c =
     let text = c.args.text.now in
     let room = length c.args.table.now in
     let was = (took (reading room text) c.args.table.now c.read.new.table c.read.result c.in_ok-count.count c.read.ensures.answer c.read.ensures.table c.in_ok-count.was).was in
-    (few room text _ was, (∣ formed room text _ was ∣₁, tt))
+    record { few = few room text _ was; formed = ∣ formed room text _ was ∣₁ }
 
 pub returns : goal.returns
 returns c =

@@ -1,4 +1,4 @@
-use Rattle.std.proofs.Common.{◌≡◌, sym, ap, ◌∙◌}
+use Rattle.std.proofs.Common.{sym, ap, ◌∙◌}
 use Rattle.bytecode.specs.Words.{written}
 use Rattle.bytecode.proofs.Words.{reads_back}
 use Rattle.bytecode.proofs.instruction.Instruction.encode.Goals as goal
