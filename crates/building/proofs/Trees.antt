@@ -1,5 +1,5 @@
 -- The table of a tree is read back as that tree.
-use Rattle.std.proofs.Common.{◌≡◌, ℕ, ◌+◌, true, false, List, [], ◌∷◌, ◌++◌, Some, Ok, Err, Result, sym, refl, ap, ◌∙◌, subst, arith}
+use Rattle.std.proofs.Common.{◌≡◌, ℕ, ◌+◌, true, false, List, [], ◌∷◌, ◌++◌, Some, Ok, Err, Result, refl, ap, ◌∙◌, subst, arith}
 use Rattle.refusal.specs.declared.Refusal.{Refusal}
 use Rattle.bytecode.specs.Words.{plus}
 use Rattle.grammar.proofs.Texts.{reading_sound}
@@ -7,10 +7,9 @@ use Rattle.grammar.specs.Laws.{Means}
 use Rattle.language.specs.Reading.{reading}
 use Rattle.language.specs.Tree.{Tree, number, truth, name, prefix, binary, choose, bind, size, entry, flatten}
 use Rattle.language.specs.declared.entry.Entry.{Entry}
-use Rattle.language.specs.declared.entry.Kind.{Kind}
 use Rattle.language.specs.declared.entry.Kind.TheVariants.{Prefix, Binary, If, Let}
 use Rattle.building.specs.Built.{Stands}
-use Rattle.building.specs.Rules.{grown, trees_of, only, tree_in, rule_of}
+use Rattle.building.specs.Rules.{grown, trees_of, only, tree_in}
 
 trees_append : (ts : List Tree) (xs ys : List Entry) → trees_of ts (xs ++ ys) ≡ trees_of (trees_of ts xs) ys
 trees_append ts [] ys = refl

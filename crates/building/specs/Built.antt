@@ -6,7 +6,6 @@ use Rattle.refusal.specs.declared.Refusal.{Refusal}
 use Rattle.compiler.specs.declared.card.Card.{Card}
 use Rattle.grammar.specs.Laws.{Means}
 use Rattle.language.specs.Code.{long, height, translation}
-use Rattle.language.specs.Reading.{reading}
 use Rattle.language.specs.Tree.{Tree}
 use Rattle.language.specs.Typing.{type_of}
 use Rattle.building.specs.Rules.{rule_of}

@@ -18,8 +18,8 @@ use typing::judge;
 
 // Judges a rule, and writes its code as the memory's whole list.
 fn compile<M: CodeMemory>(rule: Rule<'_>, memory: &mut M) -> Result<Card, Refusal>
-    ensures same { room memory.new ≡ room memory.old }
-    ensures built { (t : Tree) → rule.entry.entries.now ≡ flatten t → Built (unfit (room memory.old) t) (Some t) result (listed memory.old) (listed memory.new) }
+    ensures same { M.room memory.new ≡ M.room memory.old }
+    ensures built { (t : Tree) → rule.entry.entries.now ≡ flatten t → Built (unfit (M.room memory.old) t) (Some t) result (M.listed memory.old) (M.listed memory.new) }
     ensures kept { (t : Tree) → rule.entry.entries.now ≡ flatten t → OnErr result (memory.new ≡ memory.old) }
 {
     let gives = judge(rule)?;
@@ -33,9 +33,9 @@ pub fn build<M: CodeMemory>(
     table: &mut [Entry],
     memory: &mut M,
 ) -> Result<Card, Refusal>
-    ensures same { room memory.new ≡ room memory.old }
+    ensures same { M.room memory.new ≡ M.room memory.old }
     ensures table { table.new ≡ leaves table.old (reading (length table.old) text.now) }
-    ensures built { Built (refusal_for (room memory.old) (length table.old) text.now) (rule_of (length table.old) text.now) result (listed memory.old) (listed memory.new) }
+    ensures built { Built (refusal_for (M.room memory.old) (length table.old) text.now) (rule_of (length table.old) text.now) result (M.listed memory.old) (M.listed memory.new) }
     ensures kept { OnErr result (memory.new ≡ memory.old) }
 {
     let count = read(text, table)?;

@@ -24,7 +24,7 @@ invariant_of-rule g c =
     let text = c.args.text.now in
     let entries = length c.args.table.now in
     let was = (took (reading entries text) c.args.table.now c.read.new.table c.read.result c.in_ok-count.count c.read.ensures.answer c.read.ensures.table c.in_ok-count.was).was in
-    (few entries text _ was, (∣ formed entries text _ was ∣₁, tt))
+    record { few = few entries text _ was; formed = ∣ formed entries text _ was ∣₁ }
 
 pub returns : goal.returns
 returns g c =

@@ -1,6 +1,6 @@
-use native.Mathlib.Bridge.{le_prop}
+use Rattle.std.proofs.Math.Bridge.{le_prop}
 use Rattle.std.proofs.Common.{refl, arith}
-use mathlib.Core.Logic.{∥∥₁_elim}
+use Rattle.std.proofs.Math.Logic.{∥∥₁_elim}
 use Rattle.std.proofs.lemmas.Result.{err_from_is_err_and}
 use Rattle.language.specs.Code.{refusal_of}
 use Rattle.compiler.proofs.Carded.{some_words, carded, refused, at_refusal}
