@@ -128,7 +128,7 @@ impl CodeMemory for RecordMemory {
         word
     }
 
-    /// The bytes are then those of `appendedIn`, so that no other is altered, and none by a refusal.
+    /// The bytes are then those of `appended_in`, so that no other is altered, and none by a refusal.
     fn append(&mut self, word: Word) -> Result<(), Refusal>
         ensures same { ◌≡◌ {A = ℕ} 315 315 }
         ensures answer { result ≡ answered (code self.old.bytes) 315 }
@@ -139,7 +139,7 @@ impl CodeMemory for RecordMemory {
         Ok(())
     }
 
-    /// The bytes are then those of `clearedIn`, so that no other is altered.
+    /// The bytes are then those of `cleared_in`, so that no other is altered.
     fn clear(&mut self)
         ensures same { ◌≡◌ {A = ℕ} 315 315 }
         ensures after { code self.new.bytes ≡ [] }
