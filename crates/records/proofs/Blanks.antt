@@ -18,9 +18,9 @@ blank_alike i j k h =
 
 blank_link : (i r : ℕ) → 0 < r → r < i → blank i (16 * r) ≡ r + 1
 blank_link i r p q =
-    let not-one = ne_eqb (16 * r) 1 (λ e. omega arith) in
+    let not_one = ne_eqb (16 * r) 1 (λ e. omega arith) in
     let first = and_from _ _ (eq-eqb (16 * r % 16) 0 (omega arith)) (and_from _ _ (lt-ltb 0 (16 * r) (omega arith)) (lt-ltb (16 * r) (16 * i) (omega arith))) in
-    cond-false _ _ _ not-one ∙ (cond-true _ _ _ first ∙ omega arith)
+    cond-false _ _ _ not_one ∙ (cond-true _ _ _ first ∙ omega arith)
 
 pub blank_start : (k : ℕ) → get_or (set (replicate 1024 0) 1 1) k 0 ≡ blank 1 k
 blank_start k =

@@ -46,8 +46,8 @@ put_back : (bytes : List ℕ) (at : ℕ) (w : Word) → at + 2 < length bytes �
 put_back bytes at w l =
     let one = set bytes at w.opcode in
     let two = set one (at + 1) w.sign in
-    let size-one : length one ≡ length bytes = simp length-set in
-    let size-two : length two ≡ length bytes = simp length-set in
+    let size_one : length one ≡ length bytes = simp length-set in
+    let size_two : length two ≡ length bytes = simp length-set in
     let a : get_or (put bytes at w) at 0 ≡ w.opcode = get_or-set_other two (at + 2) at w.value 0 (λ e. omega arith) ∙ (get_or-set_other one (at + 1) at w.sign 0 (λ e. omega arith) ∙ get_or-set_same bytes at w.opcode 0 (omega arith)) in
     let b : get_or (put bytes at w) (at + 1) 0 ≡ w.sign = get_or-set_other two (at + 2) (at + 1) w.value 0 (λ e. omega arith) ∙ get_or-set_same one (at + 1) w.sign 0 (omega arith) in
     let c : get_or (put bytes at w) (at + 2) 0 ≡ w.value = get_or-set_same two (at + 2) w.value 0 (omega arith) in
@@ -60,7 +60,7 @@ count_beside bytes n j p q = get_or-set_other (set bytes 2 (n / 256)) 3 j (n % 2
 pub count_back : (bytes : List ℕ) (n : ℕ) → length bytes ≡ 1024 → count (recounted bytes n) ≡ n
 count_back bytes n size =
     let one = set bytes 2 (n / 256) in
-    let size-one : length one ≡ 1024 = simp length-set size in
+    let size_one : length one ≡ 1024 = simp length-set size in
     let a : get_or (recounted bytes n) 2 0 ≡ n / 256 = get_or-set_other one 3 2 (n % 256) 0 (λ e. omega arith) ∙ get_or-set_same bytes 2 (n / 256) 0 (omega arith) in
     let b : get_or (recounted bytes n) 3 0 ≡ n % 256 = get_or-set_same one 3 (n % 256) 0 (omega arith) in
     omega arith
@@ -75,8 +75,8 @@ fill_beside bytes r k w n j off p q =
 pub fill_count :
     (bytes : List ℕ) (r k : ℕ) (w : Word) (n : ℕ) → length bytes ≡ 1024 → count (filled bytes r k w n) ≡ n
 fill_count bytes r k w n size =
-    let size-put : length (put bytes (spot r k) w) ≡ 1024 = simp length-set size in
-    count_back (put bytes (spot r k) w) n size-put
+    let size_put : length (put bytes (spot r k) w) ≡ 1024 = simp length-set size in
+    count_back (put bytes (spot r k) w) n size_put
 
 -- Two memories with one list of records have the same word at a place, if they have the same bytes there.
 pub same_code_at :
@@ -127,7 +127,7 @@ module _ {bytes : List ℕ} {n : ℕ} {order place : ℕ → ℕ} (h : Linked by
   fill_here =
       let border = h.border in
       let size = h.size in
-      let last-in = h.within n border in
+      let last_in = h.within n border in
       let ne = not_head h n some border in
       let after = filled bytes (order n) k w (c + 1) in
       let j : c / 5 + 1 ≡ n = omega arith in
