@@ -8,7 +8,7 @@ use Rattle.language.specs.Fold.{State, Step, named, enter, begun, opening_of, is
 use Rattle.language.specs.Frames.{above, deep}
 use Rattle.language.specs.Operators.{row_of}
 use Rattle.language.specs.Reading.{is_last, tokens_from, fitted, answer, leaves}
-use Rattle.language.specs.Tokens.{Lexeme, lexeme, after, begins, scanned, begun as begunWith, is_digit, is_small, is_word, is_minus, two_mark, one_mark, mark_by, run_of}
+use Rattle.language.specs.Tokens.{Lexeme, lexeme, after, begins, scanned, begun as begun_with, is_digit, is_small, is_word, is_minus, two_mark, one_mark, mark_by, run_of}
 use Rattle.language.specs.declared.entry.Entry.{Entry}
 use Rattle.language.specs.declared.frame.Due.{Due}
 use Rattle.language.specs.declared.frame.Due.TheVariants.{Operand, Binder, Equals, Operator}
@@ -115,7 +115,7 @@ mark_moves (Some k) one = λ l. omega arith
 mark_moves None (Some k) = λ l. omega arith
 mark_moves None None = λ l. absurd (true≢false l)
 
-begun_moves : (b c : ℕ) (bs : List ℕ) → b ≡ get_or bs 0 0 → 1 ≤ length bs → Moves (begunWith b c bs)
+begun_moves : (b c : ℕ) (bs : List ℕ) → b ≡ get_or bs 0 0 → 1 ≤ length bs → Moves (begun_with b c bs)
 unfolding Moves
 begun_moves b c [] e h = absurd (omega arith)
 begun_moves b c (d ∷ bs) e h =

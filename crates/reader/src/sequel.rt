@@ -1,7 +1,7 @@
 //! The parser where an operand has ended.
 
 ghost use Rattle.std.specs.Prelude.{◌≡◌, ◌+◌, ◌^◌, ◌<◌, ◌≤◌};
-ghost use Rattle.language.specs.Fold.{ends, ended, endings, joined, turned as turnedBy, turn_of, in_of, brought, shut, finished, sequel_of, gone_on};
+ghost use Rattle.language.specs.Fold.{ends, ended, endings, joined, turned as turned_by, turn_of, in_of, brought, shut, finished, sequel_of, gone_on};
 ghost use Rattle.reader.specs.Steps.{view, put, Stepped};
 
 use crate::kinds::{is_paren, is_value, refused, sequel, turned};
@@ -42,7 +42,7 @@ impl<'a> Parser<'a> {
     fn turn(&mut self, table: &mut [Entry], turn: Turn, place: usize) -> Result<(), Refusal>
         requires room { self.old.count + self.old.stack.used + 1 < 2 ^ 64 }
         requires due { self.old.due ≡ Due.Operator }
-        ensures step { Stepped (turnedBy (turn_of turn) place (ended 0 (view self.old)) (endings 0 (view self.old))) result (view self.new) self.old.count table.old table.new }
+        ensures step { Stepped (turned_by (turn_of turn) place (ended 0 (view self.old)) (endings 0 (view self.old))) result (view self.new) self.old.count table.old table.new }
         ensures room { self.new.count + self.new.stack.used ≤ self.old.count + self.old.stack.used + 1 }
     {
         self.close(table, 0);
@@ -62,7 +62,7 @@ impl<'a> Parser<'a> {
     fn bring(&mut self, table: &mut [Entry], place: usize) -> Result<(), Refusal>
         requires room { self.old.count + self.old.stack.used + 1 < 2 ^ 64 }
         requires due { self.old.due ≡ Due.Operator }
-        ensures step { Stepped (brought (turnedBy in_of place (ended 0 (view self.old)) (endings 0 (view self.old)))) result (view self.new) self.old.count table.old table.new }
+        ensures step { Stepped (brought (turned_by in_of place (ended 0 (view self.old)) (endings 0 (view self.old)))) result (view self.new) self.old.count table.old table.new }
         ensures room { self.new.count + self.new.stack.used ≤ self.old.count + self.old.stack.used + 1 }
     {
         self.close(table, 0);
