@@ -44,9 +44,9 @@ fn prefix(a: Shape) -> Shape
 
 // Two parts, the second over the pushed value of the first, and a word behind each.
 fn pair(a: Shape, b: Shape) -> Shape
-    requires length_bound { a.length < 2 ^ 62 }
-    requires length_bound_2 { b.length < 2 ^ 62 }
-    requires tall_bound { b.tall < 2 ^ 62 }
+    requires first_length { a.length < 2 ^ 62 }
+    requires second_length { b.length < 2 ^ 62 }
+    requires second_tall { b.tall < 2 ^ 62 }
     ensures { result ≡ pair_shape a b }
 {
     Shape {
@@ -69,9 +69,9 @@ fn wide_at(place: usize, then_length: usize, else_length: usize) -> Option<usize
 
 // An if: a jump behind its condition, and one behind its else code.
 fn choice(place: usize, a: Shape, b: Shape, c: Shape) -> Shape
-    requires length_bound { a.length < 2 ^ 62 }
-    requires length_bound_2 { b.length < 2 ^ 62 }
-    requires length_bound_3 { c.length < 2 ^ 62 }
+    requires test_length { a.length < 2 ^ 62 }
+    requires first_length { b.length < 2 ^ 62 }
+    requires second_length { c.length < 2 ^ 62 }
     ensures { result ≡ choice_shape place a b c }
 {
     let own = wide_at(place, b.length, c.length);
