@@ -3,7 +3,7 @@
 use crate::argument::Argument;
 
 /// An instruction of the accumulator machine; `n` is the word on top of the stack, which is taken off.
-#[derive(Clone, Copy)]
+#[derive(Clone, Copy, PartialEq, Eq, Debug)]
 pub enum Instruction {
     /// Puts the accumulator on the stack.
     Push,

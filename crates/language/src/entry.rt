@@ -4,7 +4,7 @@ use crate::operator::{Operator, Prefix};
 use bytecode::Argument;
 
 /// What an entry is: nothing, a leaf, or a node whose parts stand before it.
-#[derive(Clone, Copy)]
+#[derive(Clone, Copy, PartialEq, Eq, Debug)]
 pub enum Kind {
     Blank,
     Number,
@@ -17,7 +17,7 @@ pub enum Kind {
 }
 
 /// An entry of the table.
-#[derive(Clone, Copy)]
+#[derive(Clone, Copy, PartialEq, Eq, Debug)]
 pub struct Entry {
     pub kind: Kind,
     /// The constant; 1 or 0 for a truth value; the position of a name, 0 being the innermost binding; else 0.

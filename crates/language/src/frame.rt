@@ -3,7 +3,7 @@
 use crate::operator::{Operator, Prefix};
 
 /// What the reader waits for.
-#[derive(Clone, Copy)]
+#[derive(Clone, Copy, PartialEq, Eq, Debug)]
 pub enum Due {
     /// An operand begins.
     Operand,
@@ -17,8 +17,9 @@ pub enum Due {
 
 /// What is open: a parenthesis; an if in its condition, its then or its else branch; a let before its name, in its
 /// first or its second expression; an operator that waits for its right side; a prefix that waits for its operand.
-#[derive(Clone, Copy)]
+#[derive(Clone, Copy, PartialEq, Eq, Debug, Default)]
 pub enum Mark {
+    #[default]
     Paren,
     Condition,
     Then,
@@ -31,7 +32,7 @@ pub enum Mark {
 }
 
 /// A frame of the reader's stack.
-#[derive(Clone, Copy)]
+#[derive(Clone, Copy, PartialEq, Eq, Debug, Default)]
 pub struct Frame {
     pub mark: Mark,
     /// The byte where the operator or the opening word begins.

@@ -4,8 +4,9 @@
 use bytecode::{Argument, Instruction};
 
 /// The type of a value: a whole number or a truth value.
-#[derive(Clone, Copy, PartialEq, Eq, Debug)]
+#[derive(Clone, Copy, PartialEq, Eq, Debug, Default)]
 pub enum ValueType {
+    #[default]
     Number,
     Truth,
 }
@@ -31,7 +32,7 @@ pub enum Prefix {
 /// What there is to know of an operator between two operands: its level, 1 being the loosest; whether it may stand
 /// beside another of its level, which then groups to the left; the type of both operands, the type of its value, and
 /// the instruction that works it out.
-#[derive(Clone, Copy)]
+#[derive(Clone, Copy, PartialEq, Eq, Debug)]
 pub struct Row {
     pub level: usize,
     pub repeats: bool,
@@ -42,7 +43,7 @@ pub struct Row {
 
 /// What there is to know of a prefix: the type of its operand and of its value, and the constant and the instruction
 /// that work it out, the operand being pushed.
-#[derive(Clone, Copy)]
+#[derive(Clone, Copy, PartialEq, Eq, Debug)]
 pub struct PrefixRow {
     pub takes: ValueType,
     pub gives: ValueType,

@@ -6,7 +6,7 @@ use crate::operator::Operator;
 use bytecode::Argument;
 
 /// What a token begins where an operand is due.
-#[derive(Clone, Copy)]
+#[derive(Clone, Copy, PartialEq, Eq, Debug)]
 pub enum Opening {
     /// An operand of one entry, of this kind and with this number.
     Leaf(Kind, Argument),
@@ -21,14 +21,14 @@ pub enum Opening {
 }
 
 /// A word that leads from one part of an if to the next.
-#[derive(Clone, Copy)]
+#[derive(Clone, Copy, PartialEq, Eq, Debug)]
 pub enum Turn {
     Then,
     Else,
 }
 
 /// What a token does where an operand has ended.
-#[derive(Clone, Copy)]
+#[derive(Clone, Copy, PartialEq, Eq, Debug)]
 pub enum Sequel {
     /// An operator waits for its right side.
     Join(Operator),

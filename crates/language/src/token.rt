@@ -4,7 +4,7 @@ use crate::operator::{Operator, Prefix};
 use bytecode::Argument;
 
 /// What begins at a place of the text, behind any blanks.
-#[derive(Clone, Copy)]
+#[derive(Clone, Copy, PartialEq, Eq, Debug)]
 pub enum TokenKind {
     Number(Argument),
     Truth(bool),
@@ -27,7 +27,7 @@ pub enum TokenKind {
 }
 
 /// A token, the place where it begins, and its part of the text.
-#[derive(Clone, Copy)]
+#[derive(Clone, Copy, PartialEq, Eq, Debug)]
 pub struct Token<'a> {
     pub kind: TokenKind,
     pub place: usize,
