@@ -1,6 +1,6 @@
 -- The operations of an arithmetic, on its words and on what they mean.
 use Rattle.std.specs.Prelude.{ℕ, ◌+◌, ◌-◌, ◌*◌, ◌%◌, Bool, cond, ◌&&◌, ℤ, pos, negsuc, ◌+ℤ◌, ◌*ℤ◌, neg_ℤ, Some, None, Option, ◌==◌, int_le, nat_le}
-use Rattle.bytecode.specs.Words.{plus}
+use Rattle.bytecode.specs.Words.{plus, whole}
 use Rattle.bytecode.specs.declared.argument.Argument.{Argument}
 
 -- `number`: the word for an argument. `plus`, `times`: the result, or none where it overflows. `same`: whether two words
@@ -28,10 +28,6 @@ unit ops = ops.number (plus 1)
 
 abbrev pub truth : {W : Type 0} → Ops W → Bool → W
 truth ops b = cond b (unit ops) (naught ops)
-
--- the whole number that an argument is
-abbrev pub whole : Argument → ℤ
-whole k = cond k.negative (neg_ℤ (pos k.size)) (pos k.size)
 
 -- the remainder modulo 65536, from 0 to 65535; negsuc n is -n-1
 abbrev pub remainder : ℤ → ℕ

@@ -5,7 +5,8 @@
 ghost use Rattle.std.specs.Prelude.{◌≡◌, ℤ, pos, Some, Decides};
 ghost use Rattle.std.specs.Option.{option_map};
 ghost use Rattle.bytecode.specs.declared.argument.Argument.{Argument};
-ghost use Rattle.arithmetic.specs.Words.{Ops, Meanings, naught, unit, whole, round_ops, round_meanings, ranged_ops, ranged_meanings};
+ghost use Rattle.bytecode.specs.Words.{whole};
+ghost use Rattle.arithmetic.specs.Words.{Ops, Meanings, naught, unit, round_ops, round_meanings, ranged_ops, ranged_meanings};
 ghost use Rattle.std.proofs.Common.{rules};
 
 use bytecode::Argument;

@@ -1,5 +1,5 @@
 -- How instructions are written as words of three bytes, and read back.
-use Rattle.std.specs.Prelude.{ℕ, zero, suc, true, false, cond, List, [], ◌∷◌, Some, None, Option}
+use Rattle.std.specs.Prelude.{ℕ, zero, suc, true, false, cond, List, [], ◌∷◌, ℤ, pos, neg_ℤ, Some, None, Option}
 use Rattle.std.proofs.Common.{zero-le, suc-le-suc}
 use Rattle.std.specs.List.{slice_get}
 use Rattle.std.specs.Option.{option_map}
@@ -14,6 +14,10 @@ plus n = record { negative = false; size = n; proper = zero-le }
 
 abbrev pub minus : ℕ → Argument
 minus n = record { negative = true; size = suc n; proper = suc-le-suc zero-le }
+
+-- the whole number that an argument is
+abbrev pub whole : Argument → ℤ
+whole k = cond k.negative (neg_ℤ (pos k.size)) (pos k.size)
 
 abbrev pub word : ℕ → ℕ → ℕ → Word
 word o s v = record { opcode = o; sign = s; value = v }

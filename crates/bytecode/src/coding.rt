@@ -33,18 +33,11 @@ impl Argument {
 }
 
 impl Word {
-    /// The word's three bytes, in their order.
-    pub fn bytes(self) -> [u8; 3]
-        ensures { result ≡ bytes_of self }
-    {
-        [self.opcode, self.sign, self.value]
-    }
-
     /// The instruction that the word is, or none.
     pub fn instruction(self) -> Option<Instruction>
         ensures { result ≡ instruction_in self }
     {
-        let bytes = self.bytes();
+        let bytes: [u8; 3] = self.into();
         decode(&bytes).0
     }
 }

@@ -4,6 +4,7 @@
 
 mod argument;
 mod coding;
+mod conversion;
 mod instruction;
 
 pub use argument::Argument;

@@ -1,8 +1,8 @@
 -- One step of the machine, over any arithmetic.
 use Rattle.std.specs.Prelude.{ℕ, zero, suc, ◌+◌, cond, ◌&&◌, List, [], ◌∷◌, length, drop, ℤ, pos, negsuc, ◌+ℤ◌, Some, None, Ok, Err, Option, Result, nat_le, nat_lt, slice_set}
 use Rattle.std.specs.List.{slice_get}
-use Rattle.arithmetic.specs.Words.{Ops, naught, unit, truth, whole}
-use Rattle.bytecode.specs.Words.{instruction_in}
+use Rattle.arithmetic.specs.Words.{Ops, naught, unit, truth}
+use Rattle.bytecode.specs.Words.{instruction_in, whole}
 use Rattle.bytecode.specs.declared.argument.Argument.{Argument}
 use Rattle.bytecode.specs.declared.instruction.Word.{Word}
 use Rattle.bytecode.specs.declared.instruction.Instruction.{Instruction}

@@ -3,18 +3,7 @@ use bytecode::Word;
 use refusal::Refusal;
 
 fn word(opcode: u8, sign: u8, value: u8) -> Word {
-    Word {
-        opcode,
-        sign,
-        value,
-    }
-}
-
-fn bytes_of(word: Option<Word>) -> Option<[u8; 3]> {
-    match word {
-        Some(word) => Some(word.bytes()),
-        None => None,
-    }
+    Word::from([opcode, sign, value])
 }
 
 // Eight bytes have room for two words; the third is refused, and nothing then changes.
@@ -28,9 +17,9 @@ fn appends_until_full(rt: HostRuntime) {
     assert_eq!(rt; memory.append(word(8, 0, 255)), Ok(()));
     assert_eq!(rt; memory.append(word(1, 2, 3)), Err(Refusal::MemoryFull(2)));
     assert_eq!(rt; memory.count(), 2);
-    assert_eq!(rt; bytes_of(memory.at(0)), Some([4, 1, 7]));
-    assert_eq!(rt; bytes_of(memory.at(1)), Some([8, 0, 255]));
-    assert_eq!(rt; bytes_of(memory.at(2)), None);
+    assert_eq!(rt; memory.at(0), Some(word(4, 1, 7)));
+    assert_eq!(rt; memory.at(1), Some(word(8, 0, 255)));
+    assert_eq!(rt; memory.at(2), None);
     assert_eq!(rt; bytes, [4, 1, 7, 8, 0, 255, 9, 9]);
 }
 
@@ -43,7 +32,7 @@ fn clears(rt: HostRuntime) {
     assert_eq!(rt; memory.append(word(0, 0, 0)), Ok(()));
     memory.clear();
     assert_eq!(rt; memory.count(), 0);
-    assert_eq!(rt; bytes_of(memory.at(0)), None);
+    assert_eq!(rt; memory.at(0), None);
     assert_eq!(rt; memory.append(word(12, 0, 0)), Ok(()));
     assert_eq!(rt; bytes, [12, 0, 0, 0, 0, 0, 9]);
 }
