@@ -82,18 +82,11 @@ only_written (suc (suc (suc (suc (suc (suc (suc (suc (suc (suc (suc (suc (suc o)
 behind_three : (o s v : ℕ) (rest : List ℕ) → take (length (o ∷ (s ∷ (v ∷ rest))) - 3) rest ≡ rest
 behind_three o s v rest = let e : length (o ∷ (s ∷ (v ∷ rest))) - 3 ≡ length rest = omega arith in ap (λ n. take n rest) e ∙ take-length rest
 
-module _ (i : Instruction) where
-  pub decodes : (bs : List ℕ) → 3 ≤ length bs → instruction_of (get_or bs 0 0) (get_or bs 1 0) (get_or bs 2 0) ≡ Some i → (Some i, take (length bs - 3) (drop 3 bs)) ≡ decoded bs
-  decodes [] h e = absurd (omega arith)
-  decodes (o ∷ []) h e = absurd (omega arith)
-  decodes (o ∷ (s ∷ [])) h e = absurd (omega arith)
-  decodes (o ∷ (s ∷ (v ∷ rest))) h e = ap (λ r. (Some i, r)) (behind_three o s v rest) ∙ sym (ap (λ r. parted r (o ∷ (s ∷ (v ∷ rest))) rest) e)
-
-  pub decodes_only : (bs : List ℕ) → 3 ≤ length bs → instruction_of (get_or bs 0 0) (get_or bs 1 0) (get_or bs 2 0) ≡ Some i → bs ≡ bytes_of (written i) ++ take (length bs - 3) (drop 3 bs)
-  decodes_only [] h e = absurd (omega arith)
-  decodes_only (o ∷ []) h e = absurd (omega arith)
-  decodes_only (o ∷ (s ∷ [])) h e = absurd (omega arith)
-  decodes_only (o ∷ (s ∷ (v ∷ rest))) h e = sym (ap (λ w. bytes_of w ++ take (length (o ∷ (s ∷ (v ∷ rest))) - 3) rest) (only_written o s v i e) ∙ ap (λ r. o ∷ (s ∷ (v ∷ r))) (behind_three o s v rest))
+pub decodes_only : (i : Instruction) (bs : List ℕ) → 3 ≤ length bs → instruction_of (get_or bs 0 0) (get_or bs 1 0) (get_or bs 2 0) ≡ Some i → bs ≡ bytes_of (written i) ++ take (length bs - 3) (drop 3 bs)
+decodes_only i [] h e = absurd (omega arith)
+decodes_only i (o ∷ []) h e = absurd (omega arith)
+decodes_only i (o ∷ (s ∷ [])) h e = absurd (omega arith)
+decodes_only i (o ∷ (s ∷ (v ∷ rest))) h e = sym (ap (λ w. bytes_of w ++ take (length (o ∷ (s ∷ (v ∷ rest))) - 3) rest) (only_written o s v i e) ∙ ap (λ r. o ∷ (s ∷ (v ∷ r))) (behind_three o s v rest))
 
 -- a size that is not 0 makes a number below 0
 pub below_zero : (k : ℕ) (h : 1 ≤ k) → (k ≡ 0 → ⊥) → Some (record { negative = true; size = k; proper = h }) ≡ argument_of 1 k

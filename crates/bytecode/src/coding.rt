@@ -46,10 +46,9 @@ impl Word {
 fn signed(opcode: u8, argument: Argument) -> Word
     ensures { result ≡ signed_word opcode argument }
 {
-    let sign = if argument.negative { 1 } else { 0 };
     Word {
         opcode,
-        sign,
+        sign: u8::from(argument.negative),
         value: argument.size,
     }
 }
@@ -93,18 +92,14 @@ impl Instruction {
 fn empty(instruction: Instruction, sign: u8, value: u8) -> Option<Instruction>
     ensures { result ≡ empty_of instruction sign value }
 {
-    if sign == 0 && value == 0 {
-        Some(instruction)
-    } else {
-        None
-    }
+    (sign == 0 && value == 0).then_some(instruction)
 }
 
 // The size behind an opcode.
 fn size(sign: u8, value: u8) -> Option<u8>
     ensures { result ≡ size_of sign value }
 {
-    if sign == 0 { Some(value) } else { None }
+    (sign == 0).then_some(value)
 }
 
 // The signed number behind an opcode.
@@ -127,13 +122,13 @@ fn instruction_of(opcode: u8, sign: u8, value: u8) -> Option<Instruction>
         1 => empty(Instruction::Addi, sign, value),
         2 => empty(Instruction::Eqi, sign, value),
         3 => empty(Instruction::Ori, sign, value),
-        4 => Some(Instruction::Consti(argument(sign, value)?)),
+        4 => argument(sign, value).map(Instruction::Consti),
         5 => empty(Instruction::Pop, sign, value),
-        6 => Some(Instruction::Acc(size(sign, value)?)),
-        7 => Some(Instruction::Popi(size(sign, value)?)),
-        8 => Some(Instruction::Branch(argument(sign, value)?)),
-        9 => Some(Instruction::Branchif(argument(sign, value)?)),
-        10 => Some(Instruction::Assign(size(sign, value)?)),
+        6 => size(sign, value).map(Instruction::Acc),
+        7 => size(sign, value).map(Instruction::Popi),
+        8 => argument(sign, value).map(Instruction::Branch),
+        9 => argument(sign, value).map(Instruction::Branchif),
+        10 => size(sign, value).map(Instruction::Assign),
         11 => empty(Instruction::Multi, sign, value),
         12 => empty(Instruction::Leqi, sign, value),
         _ => None,
@@ -142,6 +137,7 @@ fn instruction_of(opcode: u8, sign: u8, value: u8) -> Option<Instruction>
 
 /// The first instruction of the bytes with the bytes behind it, or none with all the bytes, where they begin with no word
 /// or with one that is no instruction. The bytes that read as an instruction are those that write it.
+// A pair and no option of a pair: all bytes come back where no instruction stands, so a reader goes on from the answer alone.
 pub fn decode(bytes: &[u8]) -> (Option<Instruction>, &[u8])
     ensures value { (result.0, result.1.now) ≡ decoded bytes.now }
     ensures only { IfSome result.0 (λ i. bytes.now ≡ bytes_of (written i) ++ result.1.now) }

@@ -6,6 +6,7 @@ mod argument;
 mod coding;
 mod conversion;
 mod instruction;
+mod text;
 
 pub use argument::Argument;
 pub use coding::decode;

@@ -1,130 +1,97 @@
 -- The listing, word by word.
-use Rattle.std.proofs.Common.{◌≡◌, ℕ, ◌+◌, ◌*◌, ◌<◌, ◌≤◌, leb, List, [], ◌∷◌, ◌++◌, length, get_or, drop, Some, None, Ok, Err, Option, Result, sym, refl, ap, ◌∙◌, inl, inr, append_assoc, append-nil, zero-add, arith, MatchResult}
+use Rattle.std.proofs.Common.{◌≡◌, ℕ, ◌+◌, ◌-◌, ◌*◌, ◌<◌, ◌≤◌, List, ◌∷◌, ◌++◌, length, take, drop, Some, None, Ok, Err, Option, Result, sym, refl, ap, ◌∙◌, append_assoc, arith, length-append, length-drop, IsOkAnd}
 use Rattle.std.specs.List.{slice_get}
-use Rattle.std.proofs.lemmas.List.{drop_more, drop_all}
-use Rattle.std.proofs.lemmas.Option.{slice_get-get_or, slice_get_past}
-use Rattle.std.proofs.lemmas.Bool.{cases_lt, cases_Bool, cond-true, cond-false, leb-true, le-leb, lt-leb}
+use Rattle.std.specs.Option.{ok_or, option_and_then}
+use Rattle.std.proofs.lemmas.List.{drop_more, take_at, drop_at, drop-drop}
+use Rattle.std.proofs.lemmas.Option.{slice_get_within, get_or_from_slice_get, slice_get-get_or}
+use borrow.Rule.Slice.PartMut.{put_mid}
 use Rattle.refusal.specs.declared.Refusal.{Refusal}
-use Rattle.refusal.specs.declared.Refusal.TheVariants.{BadWord, OutputTooShort}
-use Rattle.bytecode.specs.Words.{instruction_in}
+use Rattle.refusal.specs.declared.Refusal.TheVariants.{BadWord}
+use Rattle.bytecode.specs.Words.{word, instruction_in}
 use Rattle.bytecode.specs.declared.instruction.Word.{Word}
 use Rattle.bytecode.specs.declared.instruction.Instruction.{Instruction}
 use Rattle.listing.specs.Lines.{line_of, before, line_before, listing}
-use Rattle.listing.specs.Output.{answer_of, output_of, laid, size_of, Takes, Refused}
-use Rattle.listing.proofs.Laid.{Wrote, wrote_on, laid_front}
-
-before_nil : (r : Result (List ℕ) Refusal) → r ≡ before [] r
-before_nil (Ok x) = refl
-before_nil (Err e) = refl
+use Rattle.listing.specs.Output.{instruction_at}
 
 before_on : (a b : List ℕ) (r : Result (List ℕ) Refusal) → before a (before b r) ≡ before (a ++ b) r
 before_on a b (Ok x) = ap Ok (sym (append_assoc a b x))
 before_on a b (Err e) = refl
 
--- a word that is there
-there : {X : Type 0} (xs : List X) (i : ℕ) (x : X) → Some x ≡ slice_get xs i → (i < length xs) × (drop i xs ≡ x ∷ drop (i + 1) xs)
-there xs i x e =
-    elim (cases_lt i (length xs)) [
-      | inl l ↦
-          let g : Some x ≡ Some (get_or xs i x) = e ∙ slice_get-get_or xs i x l in
-          let h : get_or xs i x ≡ x = cc in
-          (l, drop_more xs i x l ∙ ap (λ y. y ∷ drop (i + 1) xs) h)
-      | inr l ↦ let n = slice_get_past xs i l in let z : ◌≡◌ {A = ℕ} 0 1 = cc in absurd (omega arith)
-    ]
+before_size : (a text : List ℕ) (r : Result (List ℕ) Refusal) → before a r ≡ Ok text → length a ≤ length text
+before_size a text (Ok x) e = let n = length-append a x in let h : a ++ x ≡ text = cc in let k = ap length h in omega arith
+before_size a text (Err why) e = let z : ◌≡◌ {A = ℕ} 0 1 = cc in absurd (omega arith)
 
--- within the list there is a word
-pub not_past : {X : Type 0} (xs : List X) (i : ℕ) (r : Option X) → i < length xs → r ≡ slice_get xs i → r ≡ None → ⊥
-not_past [] i r l e n = omega arith
-not_past (x ∷ xs) i r l e n = let g = slice_get-get_or (x ∷ xs) i x l in let z : ◌≡◌ {A = ℕ} 0 1 = cc in omega arith
+-- a word is an instruction, whose line goes before the rest, or it ends the listing
+kept_line : (place : ℕ) (o : Option Instruction) (i : Instruction) (rest : Result (List ℕ) Refusal) → ok_or o (BadWord place) ≡ Ok i → line_before place o rest ≡ before (line_of place i) rest
+kept_line place None i rest e = let z : ◌≡◌ {A = ℕ} 0 1 = cc in absurd (omega arith)
+kept_line place (Some j) i rest e = let h : j ≡ i = cc in ap (λ x. before (line_of place x) rest) h
 
--- the lines of the first i words are written: the listing is their text, and the listing of the others behind it
-pub record So (ws : List Word) (out : List ℕ) (i : ℕ) (after : List ℕ) (end : ℕ) : Type 0 where
-  pub text : List ℕ
-  pub rest : listing 0 ws ≡ before text (listing i (drop i ws))
-  pub wrote : Wrote out 0 text after end
-  pub few : end ≤ 140 * i
+kept_none : (place : ℕ) (o : Option Instruction) (why : Refusal) (rest : Result (List ℕ) Refusal) → ok_or o (BadWord place) ≡ Err why → line_before place o rest ≡ Err why
+kept_none place None why rest e = let h : BadWord place ≡ why = cc in ap Err h
+kept_none place (Some j) why rest e = let z : ◌≡◌ {A = ℕ} 0 1 = cc in absurd (omega arith)
 
-pub so_none : (ws : List Word) (out : List ℕ) → So ws out 0 out 0
-so_none ws out = record { text = []; rest = before_nil (listing 0 ws); wrote = record { out' = refl; end' = refl }; few = omega arith }
+module _ (ws : List Word) (place : ℕ) where
+  from_word : (w : Word) → slice_get ws place ≡ Some w → listing place (drop place ws) ≡ line_before place (instruction_in w) (listing (place + 1) (drop (place + 1) ws))
+  from_word w e =
+      let l = slice_get_within ws place w e in
+      ap (listing place) (drop_more ws place w l ∙ ap (λ x. x ∷ drop (place + 1) ws) (get_or_from_slice_get ws place w w e))
 
-pub so_more :
-    (ws : List Word) (out : List ℕ) (i : ℕ) (a b : List ℕ) (e f : ℕ) (w : Word) (x : Instruction) (r : Option Word) (s : Option Instruction) →
-    So ws out i a e → r ≡ slice_get ws i → r ≡ Some w → s ≡ instruction_in w → s ≡ Some x → Wrote a e (line_of i x) b f → f ≤ e + 140 → So ws out (i + 1) b f
-so_more ws out i a b e f w x r s so at found reads is line bound =
-    let few = so.few in
-    let rest = so.rest in
-    let d = (there ws i w (sym found ∙ at)).1 in
-    let l : listing i (drop i ws) ≡ line_before i (instruction_in w) (listing (i + 1) (drop (i + 1) ws)) = ap (listing i) d in
-    let k : line_before i (instruction_in w) (listing (i + 1) (drop (i + 1) ws)) ≡ before (line_of i x) (listing (i + 1) (drop (i + 1) ws)) = ap (λ o. line_before i o (listing (i + 1) (drop (i + 1) ws))) (sym reads ∙ is) in
-    record {
-      text = so.text ++ line_of i x;
-      rest = rest ∙ (ap (before so.text) (l ∙ k) ∙ before_on so.text (line_of i x) (listing (i + 1) (drop (i + 1) ws)));
-      wrote = wrote_on so.wrote line;
-      few = omega arith;
-    }
+  line_ok : (i : Instruction) → instruction_at ws place ≡ Ok i → listing place (drop place ws) ≡ before (line_of place i) (listing (place + 1) (drop (place + 1) ws))
+  line_ok i = by (slice_get ws place) refl
+    where
+      by : (o : Option Word) → slice_get ws place ≡ o → ok_or (option_and_then instruction_in o) (BadWord place) ≡ Ok i → listing place (drop place ws) ≡ before (line_of place i) (listing (place + 1) (drop (place + 1) ws))
+      by None p e = let z : ◌≡◌ {A = ℕ} 0 1 = cc in absurd (omega arith)
+      by (Some w) p e = from_word w p ∙ kept_line place (instruction_in w) i (listing (place + 1) (drop (place + 1) ws)) e
 
--- a word that is no instruction ends it
-pub so_bad :
-    (ws : List Word) (out : List ℕ) (i : ℕ) (a : List ℕ) (e : ℕ) (w : Word) (r : Option Word) (s : Option Instruction) →
-    So ws out i a e → r ≡ slice_get ws i → r ≡ Some w → s ≡ instruction_in w → s ≡ None → listing 0 ws ≡ Err (BadWord i)
-so_bad ws out i a e w r s so at found reads is =
-    let d = (there ws i w (sym found ∙ at)).1 in
-    let l : listing i (drop i ws) ≡ line_before i (instruction_in w) (listing (i + 1) (drop (i + 1) ws)) = ap (listing i) d in
-    let k : line_before i (instruction_in w) (listing (i + 1) (drop (i + 1) ws)) ≡ Err (BadWord i) = ap (λ o. line_before i o (listing (i + 1) (drop (i + 1) ws))) (sym reads ∙ is) in
-    so.rest ∙ ap (before so.text) (l ∙ k)
+  line_err : (why : Refusal) → place < length ws → instruction_at ws place ≡ Err why → listing place (drop place ws) ≡ Err why
+  line_err why l = by (slice_get ws place) refl
+    where
+      by : (o : Option Word) → slice_get ws place ≡ o → ok_or (option_and_then instruction_in o) (BadWord place) ≡ Err why → listing place (drop place ws) ≡ Err why
+      by None p e = let g = slice_get-get_or ws place (word 0 0 0) l in let z : ◌≡◌ {A = ℕ} 0 1 = cc in absurd (omega arith)
+      by (Some w) p e = from_word w p ∙ kept_none place (instruction_in w) why (listing (place + 1) (drop (place + 1) ws)) e
 
--- all words are written
-pub so_all :
-    (ws : List Word) (out : List ℕ) (i : ℕ) (a : List ℕ) (e : ℕ) (so : So ws out i a e) → length ws ≤ i → listing 0 ws ≡ Ok so.text
-so_all ws out i a e so l =
-    so.rest ∙ (ap (λ xs. before so.text (listing i xs)) (drop_all i ws l) ∙ ap Ok (append-nil so.text))
+-- the lines of the first words make this text, of so many bytes
+pub record Read (ws : List Word) (place : ℕ) (text : List ℕ) (size : ℕ) : Type 0 where
+  pub rest : listing 0 ws ≡ before text (listing place (drop place ws))
+  pub size' : size ≡ length text
+  pub few : size ≤ 42 * place
 
--- what that says of the answer and the output
-abbrev pub Fills : Result (List ℕ) Refusal → List ℕ → List ℕ → Type 0
-Fills whole out after = (n : ℕ) → Ok n ≡ answer_of whole (length out) → after ≡ output_of whole out
+module _ (ws : List Word) (place : ℕ) (text : List ℕ) (size : ℕ) (r : Read ws place text size) where
+  pub read_more : (i : Instruction) (line : List ℕ) (n : ℕ) → instruction_at ws place ≡ Ok i → line ≡ line_of place i → n ≡ length line → n ≤ 42 → Read ws (place + 1) (text ++ line) (size + n)
+  read_more i line n e l p short =
+      let few = r.few in
+      let size' = r.size' in
+      let k = length-append text line in
+      record {
+        rest = r.rest ∙ ap (before text) (line_ok ws place i e) ∙ before_on text (line_of place i) (listing (place + 1) (drop (place + 1) ws)) ∙ ap (λ x. before (text ++ x) (listing (place + 1) (drop (place + 1) ws))) (sym l);
+        size' = omega arith;
+        few = omega arith;
+      }
 
-pub fills_none : (whole : Result (List ℕ) Refusal) (why : Refusal) (out after : List ℕ) → whole ≡ Err why → Fills whole out after
-fills_none whole why out after e n a =
-    let f : answer_of whole (length out) ≡ Err why = ap (λ r. answer_of r (length out)) e in
-    let z : ◌≡◌ {A = ℕ} 0 1 = cc in
-    absurd (omega arith)
+  pub read_err : (why : Refusal) → place < length ws → instruction_at ws place ≡ Err why → listing 0 ws ≡ Err why
+  read_err why l e = r.rest ∙ ap (before text) (line_err ws place why l e)
 
-fills_text : (text out after : List ℕ) (n : ℕ) → after ≡ laid out 0 text → Ok n ≡ answer_of (Ok text) (length out) → after ≡ output_of (Ok text) out
-fills_text text out after n p a =
-    elim (cases_Bool (leb (length text) (length out))) [
-      | inl t ↦ p ∙ (laid_front out text (leb-true (length text) (length out) t) ∙ sym (cond-true (leb (length text) (length out)) (text ++ drop (length text) out) out t))
-      | inr t ↦
-          let f : answer_of (Ok text) (length out) ≡ Err (OutputTooShort (length text)) = cond-false (leb (length text) (length out)) (Ok (length text)) (Err (OutputTooShort (length text))) t in
-          let z : ◌≡◌ {A = ℕ} 0 1 = cc in
-          absurd (omega arith)
-    ]
+  pub read_fits : (room : ℕ) → IsOkAnd (listing 0 ws) (λ all. length all ≤ room) → size ≤ room
+  read_fits room = by (listing 0 ws) r.rest
+    where
+      by : (all : Result (List ℕ) Refusal) → all ≡ before text (listing place (drop place ws)) → IsOkAnd all (λ all. length all ≤ room) → size ≤ room
+      by (Ok all) e l = let k = before_size text all (listing place (drop place ws)) (sym e) in let s = r.size' in omega arith
+      by (Err why) e l = absurd l
 
-pub fills_all : (whole : Result (List ℕ) Refusal) (text out after : List ℕ) (e : ℕ) → whole ≡ Ok text → Wrote out 0 text after e → Fills whole out after
-fills_all whole text out after e is w n a =
-    fills_text text out after n w.out' (a ∙ ap (λ r. answer_of r (length out)) is) ∙ ap (λ r. output_of r out) (sym is)
+-- the line goes behind the text, over what the output held
+pub put_line : (text line first out ys : List ℕ) (end n : ℕ) → end ≡ length text → out ≡ text ++ drop end first → n ≡ length line → ys ≡ line → put_mid end (end + n - end) out ys ≡ (text ++ line) ++ drop (end + n) first
+put_line text line first out ys end n e o k y =
+    let size : end + n - end ≡ n = omega arith in
+    let front : take end out ≡ text = ap (take end) o ∙ take_at text (drop end first) end (sym e) in
+    let behind : drop end out ≡ drop end first = ap (drop end) o ∙ drop_at text (drop end first) end (sym e) in
+    let rest : drop (end + n - end) (drop end out) ≡ drop (end + n) first = ap (λ m. drop m (drop end out)) size ∙ ap (drop n) behind ∙ drop-drop n end first in
+    let all : put_mid end (end + n - end) out ys ≡ text ++ (line ++ drop (end + n) first) = rw (front, y, rest) in
+    all ∙ sym (append_assoc text line (drop (end + n) first))
 
-pub size_all : (whole : Result (List ℕ) Refusal) (text out after : List ℕ) (e : ℕ) → whole ≡ Ok text → Wrote out 0 text after e → Ok e ≡ size_of whole
-size_all whole text out after e is w =
-    let n : e ≡ length text = w.end' ∙ zero-add (length text) in
-    ap Ok n ∙ ap size_of (sym is)
-
--- from the size alone: what an output that is long enough gets, and one that is not
-pub takes : (whole : Result (List ℕ) Refusal) (n : ℕ) → Ok n ≡ size_of whole → Takes whole n
-takes (Err e) n h = let z : ◌≡◌ {A = ℕ} 0 1 = cc in absurd (omega arith)
-takes (Ok text) n h =
-    let e : n ≡ length text = cc in
-    record {
-      size = sym h;
-      enough = λ out l. ap Ok e ∙ sym (cond-true (leb (length text) (length out)) (Ok (length text)) (Err (OutputTooShort (length text))) (le-leb (length text) (length out) (omega arith)));
-      short = λ out l. ap (λ k. Err (OutputTooShort k)) e ∙ sym (cond-false (leb (length text) (length out)) (Ok (length text)) (Err (OutputTooShort (length text))) (lt-leb (length text) (length out) (omega arith)));
-      kept = λ out l. sym (cond-false (leb (length text) (length out)) (text ++ drop (length text) out) out (lt-leb (length text) (length out) (omega arith)));
-    }
-
-pub refuses : (whole : Result (List ℕ) Refusal) (why : Refusal) → Err why ≡ size_of whole → Refused whole why
-refuses (Err e) why h = record { answer = λ out. h; kept = λ out. refl }
-refuses (Ok text) why h = let z : ◌≡◌ {A = ℕ} 0 1 = cc in absurd (omega arith)
-
--- so of either
-pub answered : (whole : Result (List ℕ) Refusal) (r : Result ℕ Refusal) → r ≡ size_of whole → MatchResult r (Takes whole) (Refused whole)
-answered whole (Ok n) h = takes whole n h
-answered whole (Err e) h = refuses whole e h
+-- so the output stays as long as it was
+pub same_room : (text first out : List ℕ) (end : ℕ) → end ≡ length text → end ≤ length first → out ≡ text ++ drop end first → length out ≡ length first
+same_room text first out end e l o =
+    let n = length-append text (drop end first) in
+    let d = length-drop end first in
+    let k = ap length o in
+    omega arith

@@ -1,7 +1,12 @@
 -- What the caller is answered, and what the output holds then.
-use Rattle.std.specs.Prelude.{◌≡◌, ℕ, ◌+◌, ◌<◌, ◌≤◌, cond, List, [], ◌∷◌, ◌++◌, length, drop, Ok, Err, Result, nat_le, slice_set}
+use Rattle.std.specs.Prelude.{ℕ, cond, List, ◌++◌, length, drop, Ok, Err, Result, nat_le}
+use Rattle.std.specs.List.{slice_get}
+use Rattle.std.specs.Option.{ok_or, option_and_then}
 use Rattle.refusal.specs.declared.Refusal.{Refusal}
-use Rattle.refusal.specs.declared.Refusal.TheVariants.{OutputTooShort}
+use Rattle.refusal.specs.declared.Refusal.TheVariants.{BadWord, OutputTooShort}
+use Rattle.bytecode.specs.Words.{instruction_in}
+use Rattle.bytecode.specs.declared.instruction.Word.{Word}
+use Rattle.bytecode.specs.declared.instruction.Instruction.{Instruction}
 
 -- the answer, where the output has this many bytes
 abbrev pub answer_of : Result (List ℕ) Refusal → ℕ → Result ℕ Refusal
@@ -13,24 +18,11 @@ abbrev pub output_of : Result (List ℕ) Refusal → List ℕ → List ℕ
 output_of (Ok text) out = cond (nat_le (length text) (length out)) (text ++ drop (length text) out) out
 output_of (Err why) out = out
 
--- bytes written one after another from a place on; what would lie past the end is not written
-abbrev pub laid : List ℕ → ℕ → List ℕ → List ℕ
-laid out at [] = out
-laid out at (b ∷ bs) = laid (slice_set out at b) (at + 1) bs
-
 -- how many bytes a listing takes
 abbrev pub size_of : Result (List ℕ) Refusal → Result ℕ Refusal
 size_of (Ok text) = Ok (length text)
 size_of (Err why) = Err why
 
--- the listing takes n bytes: so the output is long enough, or too short and left as it is
-pub record Takes (whole : Result (List ℕ) Refusal) (n : ℕ) : Type 0 where
-  pub size : size_of whole ≡ Ok n
-  pub enough : (out : List ℕ) → n ≤ length out → Ok n ≡ answer_of whole (length out)
-  pub short : (out : List ℕ) → length out < n → Err (OutputTooShort n) ≡ answer_of whole (length out)
-  pub kept : (out : List ℕ) → length out < n → out ≡ output_of whole out
-
--- there is no listing, whatever the output
-pub record Refused (whole : Result (List ℕ) Refusal) (why : Refusal) : Type 0 where
-  pub answer : (out : List ℕ) → Err why ≡ answer_of whole (length out)
-  pub kept : (out : List ℕ) → out ≡ output_of whole out
+-- the instruction at a place, or the refusal of the word there
+abbrev pub instruction_at : List Word → ℕ → Result Instruction Refusal
+instruction_at ws place = ok_or (option_and_then instruction_in (slice_get ws place)) (BadWord place)

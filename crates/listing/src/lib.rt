@@ -3,40 +3,51 @@
 #![tactic(auto)]
 
 mod lines;
-mod put;
 
-ghost use Rattle.std.specs.Prelude.{◌≡◌, ℕ, length, Ok, MatchResult};
+ghost use Rattle.std.specs.Prelude.{◌≡◌, ◌≤◌, length, IsOkAnd};
 ghost use Rattle.listing.specs.Lines.{listing};
-ghost use Rattle.listing.specs.Output.{answer_of, output_of, size_of, Takes, Refused};
+ghost use Rattle.listing.specs.Output.{answer_of, output_of, size_of, instruction_at};
 
-use lines::put_line;
+use bytecode::Instruction;
+use lines::line;
 use memory::CodeMemory;
 use refusal::Refusal;
 
-// Writes the lines of the memory's words as far as the output reaches, and returns the bytes that they all take.
-fn put_lines<M: CodeMemory>(memory: &M, out: &mut [u8]) -> Result<usize, Refusal>
-    ensures size { result ≡ size_of (listing 0 (M.CodeMemory.listed memory.now)) }
-    ensures output { (n : ℕ) → Ok n ≡ answer_of (listing 0 (M.CodeMemory.listed memory.now)) (length out.old) → out.new ≡ output_of (listing 0 (M.CodeMemory.listed memory.now)) out.old }
+// The instruction at a place of the code, unless the word there is none.
+fn instruction_at<M: CodeMemory>(memory: &M, place: usize) -> Result<Instruction, Refusal>
+    ensures { result ≡ instruction_at (M.CodeMemory.listed memory.now) place }
 {
-    let mut end = 0;
-    for place in 0..memory.count() {
-        let Some(word) = memory.at(place) else {
-            unreachable()
-        };
-        let Some(instruction) = word.instruction() else {
-            return Err(Refusal::BadWord(place));
-        };
-        end = put_line(out, end, place, instruction);
-    }
-    Ok(end)
+    memory
+        .at(place)
+        .and_then(|word| word.instruction())
+        .ok_or(Refusal::BadWord(place))
 }
 
 // The bytes that the listing takes.
 fn needed<M: CodeMemory>(memory: &M) -> Result<usize, Refusal>
-    ensures { MatchResult result (Takes (listing 0 (M.CodeMemory.listed memory.now))) (Refused (listing 0 (M.CodeMemory.listed memory.now))) }
+    ensures { result ≡ size_of (listing 0 (M.CodeMemory.listed memory.now)) }
 {
-    let mut none = [0; 0];
-    put_lines(memory, &mut none)
+    let mut bytes = 0;
+    for place in 0..memory.count() {
+        bytes += line(place, instruction_at(memory, place)?).len();
+    }
+    Ok(bytes)
+}
+
+// Writes the lines of all words into an output that has room for them, and returns the bytes written.
+fn put_lines<M: CodeMemory>(memory: &M, out: &mut [u8]) -> Result<usize, Refusal>
+    requires { IsOkAnd (listing 0 (M.CodeMemory.listed memory.now)) (λ text. length text ≤ length out.old) }
+    ensures answer { result ≡ answer_of (listing 0 (M.CodeMemory.listed memory.now)) (length out.old) }
+    ensures output { out.new ≡ output_of (listing 0 (M.CodeMemory.listed memory.now)) out.old }
+{
+    let mut end = 0;
+    for place in 0..memory.count() {
+        let line = line(place, instruction_at(memory, place)?);
+        let start = end;
+        end += line.len();
+        out[start..end].copy_from_slice(line.as_bytes());
+    }
+    Ok(end)
 }
 
 /// Writes a line for each word of the memory and returns the bytes written; the output behind them is as it was. It
@@ -45,10 +56,7 @@ pub fn list<M: CodeMemory>(memory: &M, out: &mut [u8]) -> Result<usize, Refusal>
     ensures answer { result ≡ answer_of (listing 0 (M.CodeMemory.listed memory.now)) (length out.old) }
     ensures output { out.new ≡ output_of (listing 0 (M.CodeMemory.listed memory.now)) out.old }
 {
-    let needed = match needed(memory) {
-        Ok(bytes) => bytes,
-        Err(why) => return Err(why),
-    };
+    let needed = needed(memory)?;
     if needed > out.len() {
         return Err(Refusal::OutputTooShort(needed));
     }

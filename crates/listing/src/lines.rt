@@ -1,77 +1,39 @@
 //! The line of one instruction.
 
-ghost use Rattle.std.specs.Prelude.{◌≡◌, ◌+◌, ◌^◌, ◌≤◌, length};
-ghost use Rattle.listing.specs.Lines.{name_of, argument_in, argument_text, line_of};
-ghost use Rattle.listing.specs.Output.{laid};
+ghost use Rattle.std.specs.Prelude.{◌≡◌, ◌+◌, ◌≤◌, ◌++◌};
+ghost use Rattle.arrayvec.specs.ArrayString.{array_string_len};
+ghost use Rattle.bytecode.specs.Text.{instruction_text};
+ghost use Rattle.listing.specs.Lines.{line_of};
 
-use crate::put::{put, put_number, put_text};
-use bytecode::{Argument, Instruction};
+use arrayvec::ArrayString;
+use bytecode::Instruction;
+use itoa::Buffer;
 
-fn name(instruction: Instruction) -> &'static str
-    ensures value { result.now ≡ name_of instruction }
-    ensures bound { length result.now ≤ 8 }
+/// A line has at most 42 bytes: 20 digits, two blanks, a name of 8 letters, a number of at most 11 bytes and the newline.
+pub(crate) type Line = ArrayString<42>;
+
+// Appends an instruction. No contract says that `write!` succeeds, and a listing always does: so the parts of a line are
+// appended one by one.
+fn push_instruction(line: &mut Line, instruction: Instruction)
+    requires { array_string_len line.old ≤ 21 }
+    ensures bytes { line.new.bytes ≡ line.old.bytes ++ instruction_text instruction }
+    ensures short { array_string_len line.new ≤ array_string_len line.old + 20 }
 {
-    match instruction {
-        Instruction::Push => "Push",
-        Instruction::Addi => "Addi",
-        Instruction::Eqi => "Eqi",
-        Instruction::Ori => "Ori",
-        Instruction::Consti(_) => "Consti",
-        Instruction::Pop => "Pop",
-        Instruction::Acc(_) => "Acc",
-        Instruction::Popi(_) => "Popi",
-        Instruction::Branch(_) => "Branch",
-        Instruction::Branchif(_) => "Branchif",
-        Instruction::Assign(_) => "Assign",
-        Instruction::Multi => "Multi",
-        Instruction::Leqi => "Leqi",
+    line.push_str(instruction.name());
+    if let Some(argument) = instruction.argument() {
+        line.push(' ');
+        line.push_str(Buffer::new().format(i32::from(argument)));
     }
 }
 
-fn argument(instruction: Instruction) -> Option<Argument>
-    ensures { result ≡ argument_in instruction }
+// The line of an instruction at a place of the code.
+pub(crate) fn line(place: usize, instruction: Instruction) -> Line
+    ensures { result.bytes ≡ line_of place instruction }
 {
-    match instruction {
-        Instruction::Consti(k) => Some(k),
-        Instruction::Branch(k) => Some(k),
-        Instruction::Branchif(k) => Some(k),
-        Instruction::Acc(k) => Some(Argument::plus(k)),
-        Instruction::Popi(k) => Some(Argument::plus(k)),
-        Instruction::Assign(k) => Some(Argument::plus(k)),
-        _ => None,
-    }
-}
-
-// Writes the argument, if there is one, behind a blank.
-fn put_argument(out: &mut [u8], at: usize, argument: Option<Argument>) -> usize
-    requires { at ≤ 2 ^ 34 }
-    ensures out { out.new ≡ laid out.old at (argument_text argument) }
-    ensures end { result ≡ at + length (argument_text argument) }
-    ensures bound { result ≤ at + 66 }
-{
-    let Some(argument) = argument else {
-        return at;
-    };
-    let blank = put(out, at, b' ');
-    let size = usize::from(argument.size);
-    if argument.negative {
-        let minus = put(out, blank, b'-');
-        put_number(out, minus, size)
-    } else {
-        put_number(out, blank, size)
-    }
-}
-
-// Writes the line of an instruction at a place of the code.
-pub(crate) fn put_line(out: &mut [u8], at: usize, place: usize, instruction: Instruction) -> usize
-    requires { at ≤ 2 ^ 32 }
-    ensures out { out.new ≡ laid out.old at (line_of place instruction) }
-    ensures end { result ≡ at + length (line_of place instruction) }
-    ensures bound { result ≤ at + 140 }
-{
-    let blank = put_number(out, at, place);
-    let start = put(out, blank, b' ');
-    let named = put_text(out, start, name(instruction).as_bytes());
-    let end = put_argument(out, named, argument(instruction));
-    put(out, end, b'\n')
+    let mut line = Line::new();
+    line.push_str(Buffer::new().format(place));
+    line.push(' ');
+    push_instruction(&mut line, instruction);
+    line.push('\n');
+    line
 }

@@ -6,6 +6,7 @@
 ghost use Rattle.std.specs.Prelude.{◌≡◌, Some};
 ghost use Rattle.refusal.specs.Refusals.{number_of, part_of, detail_of, name_of, line_of};
 
+use std::error::Error;
 use std::fmt;
 
 /// The part of the product that finds a refusal.
@@ -162,14 +163,25 @@ impl Refusal {
     }
 }
 
+/// The part's name.
+impl fmt::Display for Part {
+    ghost output = { λ p. Some (name_of p) };
+
+    fn fmt<W: fmt::Write>(&self, f: &mut fmt::Formatter<W>) -> fmt::Result {
+        f.write_str(self.name())
+    }
+}
+
 /// The printed line of a refusal: `refused NUMBER PART DETAIL`.
 impl fmt::Display for Refusal {
     ghost output = { λ x. Some (line_of x) };
 
     fn fmt<W: fmt::Write>(&self, f: &mut fmt::Formatter<W>) -> fmt::Result {
         let number = self.number();
-        let part = self.part().name();
+        let part = self.part();
         let detail = self.detail();
         write!(f, "refused {number} {part} {detail}")
     }
 }
+
+impl Error for Refusal {}

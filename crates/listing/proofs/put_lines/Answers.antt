@@ -1,40 +1,33 @@
-use Rattle.std.proofs.Common.{◌<◌, ◌≤◌, length, sym, ap, arith}
-use Rattle.listing.specs.Lines.{listing}
-use Rattle.listing.specs.Output.{size_of}
-use Rattle.listing.proofs.Listed.{not_past, so_more, so_bad, so_all, fills_none, fills_all, size_all}
+use Rattle.std.proofs.Common.{◌≡◌, ◌+◌, ◌≤◌, length, sym, ◌∙◌, arith, rules, subst, IsOkAnd}
+use Rattle.listing.proofs.Listed.{read_more, read_err, read_fits, put_line, same_room}
 use Rattle.listing.proofs.put_lines.Goals as goal
 
-pub unreachable-requires : goal.unreachable-requires
-unreachable-requires g c =
+pub returns-in_err-instruction_at : goal.returns-in_err-instruction_at
+returns-in_err-instruction_at g c =
     let ws = g.M.CodeMemory.listed c.args.memory.now in
-    let count = c.count-place-end.ensures.value in
-    let less : c.loop-place.place < length ws = omega arith in
-    not_past ws c.loop-place.place c.at.result less c.at.ensures c.in_default.is
+    let is = sym c.instruction_at.ensures ∙ c.in_err-instruction_at.was in
+    let less = c.count-place-end.ensures.value in
+    let e = read_err ws _ _ _ c.loop-place.invariant.1 _ (omega arith) is in
+    absurd (subst (λ r. IsOkAnd r (λ text. length text ≤ length c.args.out.now)) e c.requires)
 
-pub returns-in_default-instruction : goal.returns-in_default-instruction
-returns-in_default-instruction g c =
+pub slice_bounds-copy_from_slice-end : goal.slice_bounds-copy_from_slice-end
+slice_bounds-copy_from_slice-end g c =
     let ws = g.M.CodeMemory.listed c.args.memory.now in
-    let bad = so_bad ws c.args.out.now c.loop-place.place _ _ c.in-Some.word c.at.result c.instruction.result c.loop-place.invariant c.at.ensures c.in-Some.is c.instruction.ensures c.in_default-instruction.is in
-    record { size = sym (ap size_of bad); output = fills_none (listing 0 ws) _ c.args.out.now c.loop-place.out bad }
+    let is = sym c.instruction_at.ensures ∙ c.in_ok-instruction_at.was in
+    let r = c.loop-place.invariant.1 in
+    let more = read_more ws _ _ _ r _ _ _ is c.line-line.ensures c.len.ensures.value c.len.ensures.fits in
+    let fits = read_fits ws _ _ _ more _ c.requires in
+    let same = same_room _ _ _ _ r.size' (omega arith) c.loop-place.invariant.2 in
+    let room : c.loop-place.end + c.len.result ≤ length c.loop-place.out = omega arith in
+    search rules
 
 pub loop-place-preserved : goal.loop-place-preserved
 loop-place-preserved g c =
     let ws = g.M.CodeMemory.listed c.args.memory.now in
-    so_more ws c.args.out.now c.loop-place.place _ _ _ _ c.in-Some.word c.in-Some-instruction.instruction c.at.result c.instruction.result c.loop-place.invariant
-    c.at.ensures
-    c.in-Some.is
-    c.instruction.ensures
-    c.in-Some-instruction.is
-    (record { out' = c.put_line-end.ensures.out; end' = c.put_line-end.ensures.end })
-    c.put_line-end.ensures.bound
-
-pub returns : goal.returns
-returns g c =
-    let ws = g.M.CodeMemory.listed c.args.memory.now in
-    let count = c.count-place-end.ensures.value in
-    let past : length ws ≤ c.loop-place.place = omega arith in
-    let all = so_all ws c.args.out.now c.loop-place.place _ _ c.loop-place.invariant past in
-    record {
-      size = size_all (listing 0 ws) _ c.args.out.now _ _ all c.loop-place.invariant.wrote;
-      output = fills_all (listing 0 ws) _ c.args.out.now _ _ all c.loop-place.invariant.wrote;
-    }
+    let is = sym c.instruction_at.ensures ∙ c.in_ok-instruction_at.was in
+    let r = c.loop-place.invariant.1 in
+    let copied : c.copy_from_slice.new.self ≡ c.line-line.result.bytes = search rules in (
+      _,
+      read_more ws _ _ _ r _ _ _ is c.line-line.ensures c.len.ensures.value c.len.ensures.fits,
+      put_line _ _ _ _ _ _ _ r.size' c.loop-place.invariant.2 c.len.ensures.value copied,
+    )

@@ -1,0 +1,6 @@
+use Rattle.std.proofs.Common.{ℕ, List}
+use Rattle.listing.proofs.Listed.{Read}
+use Rattle.listing.proofs.needed.Given as goal
+
+abbrev pub invariant-loop-place : goal.invariant-loop-place
+invariant-loop-place g l = (text : List ℕ) × Read (g.M.CodeMemory.listed l.memory) l.place text l.bytes
