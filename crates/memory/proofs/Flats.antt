@@ -1,10 +1,10 @@
 -- Words in bytes, one read and one written.
-use Rattle.std.proofs.Common.{◌≡◌, ℕ, ◌+◌, ◌-◌, ◌*◌, ◌/◌, ◌<◌, ◌≤◌, ◌≢◌, true, ltb, List, [], ◌∷◌, ◌++◌, length, get_or, take, Some, sym, ap, subst, ◌∙◌, arith, length-set, length-take, get_or-take}
+use Rattle.std.proofs.Common.{◌≡◌, ℕ, ◌+◌, ◌-◌, ◌*◌, ◌/◌, ◌<◌, ◌≤◌, true, ltb, List, [], ◌∷◌, ◌++◌, length, get_or, take, Some, sym, ap, ◌∙◌, arith, length-set, length-take, get_or-take}
 use Rattle.std.specs.List.{slice_get}
 use Rattle.std.specs.Simd.{first_chunks}
 use Rattle.std.proofs.lemmas.List.FromFn.{length-map-range_with_len, get_or-map-range_with_len, map-range_with_len_more}
 use Rattle.std.proofs.lemmas.Option.{slice_get-get_or}
-use Rattle.std.proofs.lemmas.Bool.{lt-ltb, cond-true}
+use Rattle.std.proofs.lemmas.Bool.{lt-ltb, le-ltb, cond-true, cond-false}
 use borrow.Rule.Slice.PartMut.{put_mid}
 use Rattle.bytecode.specs.declared.instruction.Word.{Word}
 use Rattle.bytecode.specs.Words.{bytes_of}
@@ -37,23 +37,30 @@ words_put bytes n w l =
     let here = put_back bytes (3 * n) w l in
     cc
 
--- the bytes of a word copied behind n words, with room for it
-pub record Adds (bytes after : List ℕ) (n : ℕ) (w : Word) : Type 0 where
-  pub fits : n + 1 ≤ room_in after
-  pub listed : words after (n + 1) ≡ appended (words bytes n) (room_in bytes) w
-  pub written : after ≡ put_in bytes n w
+-- The bytes of a word are copied behind n words, with room for it.
+module _ (bytes : List ℕ) (n place : ℕ) (part : List ℕ) (w : Word) (is : place ≡ length (words bytes n)) (fits : n ≤ room_in bytes)
+    (less : place ≡ room_in bytes → ⊥) (copied : part ≡ bytes_of w) where
+  added : put_mid (3 * place) (3 * place + 3 - 3 * place) bytes part ≡ put bytes (3 * n) w
+  added =
+      let same : place ≡ n = is ∙ length_words bytes n in copied_put bytes (3 * place) part w copied (omega arith) ∙ ap (λ k. put bytes (3 * k) w) same
 
-pub adds :
-    (bytes : List ℕ) (n place : ℕ) (part : List ℕ) (w : Word) → place ≡ length (words bytes n) → n ≤ room_in bytes → place ≢ room_in bytes →
-    part ≡ bytes_of w → Adds bytes (put_mid (3 * place) (3 * place + 3 - 3 * place) bytes part) n w
-adds bytes n place part w is fits less copied =
-    let same : place ≡ n = is ∙ length_words bytes n in
-    let within : n < room_in bytes = omega arith in
-    let made : put_mid (3 * place) (3 * place + 3 - 3 * place) bytes part ≡ put bytes (3 * n) w = copied_put bytes (3 * place) part w copied (omega arith) ∙ ap (λ k. put bytes (3 * k) w) same in
-    let t : ltb (length (words bytes n)) (room_in bytes) ≡ true = rw length_words (lt-ltb n (room_in bytes) within) in
-    subst (λ after. Adds bytes after n w) (sym made)
-    (record {
-      fits = simp length-set (omega arith);
-      listed = words_put bytes n w (omega arith) ∙ sym (cond-true _ (words bytes n ++ w ∷ []) (words bytes n) t);
-      written = sym (cond-true _ (put bytes (3 * n) w) bytes (lt-ltb n (room_in bytes) within));
-    })
+  pub added_fits : n + 1 ≤ room_in (put_mid (3 * place) (3 * place + 3 - 3 * place) bytes part)
+  added_fits =
+      let same : place ≡ n = is ∙ length_words bytes n in rw added (simp length-set (omega arith))
+
+  pub added_listed : words (put_mid (3 * place) (3 * place + 3 - 3 * place) bytes part) (n + 1) ≡ appended (words bytes n) (room_in bytes) w
+  added_listed =
+      let same : place ≡ n = is ∙ length_words bytes n in
+      let t : ltb (length (words bytes n)) (room_in bytes) ≡ true = rw length_words (lt-ltb n (room_in bytes) (omega arith)) in
+      ap (λ after. words after (n + 1)) added ∙ (words_put bytes n w (omega arith) ∙ sym (cond-true _ (words bytes n ++ w ∷ []) (words bytes n) t))
+
+  pub added_written : put_mid (3 * place) (3 * place + 3 - 3 * place) bytes part ≡ put_in bytes n w
+  added_written =
+      let same : place ≡ n = is ∙ length_words bytes n in
+      added ∙ sym (cond-true _ (put bytes (3 * n) w) bytes (lt-ltb n (room_in bytes) (omega arith)))
+
+-- nothing is written where there is no room
+pub full_written : (bytes : List ℕ) (n : ℕ) (w : Word) → n ≡ room_in bytes → bytes ≡ put_in bytes n w
+full_written bytes n w e = sym (cond-false _ (put bytes (3 * n) w) bytes (le-ltb _ _ (omega arith)))
+
+pub ruleset flats = (length_words, added_fits, added_listed, added_written, full_written)

@@ -29,7 +29,7 @@ impl<'a> Flat<'a> {
     }
 }
 
-#[tactic(auto, using(crate::proofs::Flats::length_words))]
+#[tactic(auto, using(crate::proofs::Flats::flats))]
 impl<'a> CodeMemory for Flat<'a> {
     ghost listed = { λ m. words m.bytes.now m.used };
 
