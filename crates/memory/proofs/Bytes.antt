@@ -1,5 +1,5 @@
 -- A word in bytes, written and read.
-use Rattle.std.proofs.Common.{◌≡◌, ℕ, zero, suc, ◌+◌, ◌-◌, ◌*◌, ◌<◌, ◌≤◌, ◌≢◌, List, [], ◌∷◌, map, length, get_or, drop, set, refl, ap, ◌∙◌, arith, length-set, get_or-take, get_or-drop}
+use Rattle.std.proofs.Common.{◌≡◌, ℕ, zero, suc, ◌+◌, ◌-◌, ◌*◌, ◌<◌, ◌≤◌, ◌≢◌, List, [], ◌∷◌, map, length, get_or, take, drop, set, refl, ap, ◌∙◌, arith, length-set, get_or-take, get_or-drop}
 use Rattle.std.specs.List.{range_with_len}
 use Rattle.std.specs.Simd.{first_chunks}
 use borrow.Rule.Slice.PartMut.{put_mid}
@@ -24,6 +24,12 @@ pub same_bytes :
     ((j : ℕ) → at ≤ j → j ≤ at + 2 → get_or after j 0 ≡ get_or bytes j 0) → word_at after at ≡ word_at bytes at
 same_bytes bytes after at h =
     same_word _ _ (h at (omega arith) (omega arith)) (h (at + 1) (omega arith) (omega arith)) (h (at + 2) (omega arith) (omega arith))
+
+-- a word of a part of the bytes
+pub part_word : (bytes : List ℕ) (a n j t : ℕ) → j + 2 < n → a + j ≡ t → word_at (take n (drop a bytes)) j ≡ word_at bytes t
+part_word bytes a n j t l is =
+    let at : (i k : ℕ) → i < n → a + i ≡ k → get_or (take n (drop a bytes)) i 0 ≡ get_or bytes k 0 = λ i k p e. get_or-take n (drop a bytes) i 0 p ∙ (get_or-drop a bytes i 0 ∙ ap (λ m. get_or bytes m 0) e) in
+    same_word _ _ (at j t (omega arith) is) (at (j + 1) (t + 1) (omega arith) (omega arith)) (at (j + 2) (t + 2) (omega arith) (omega arith))
 
 -- a byte that none of three writes touches
 pub beside :

@@ -11,6 +11,6 @@ loop-i-init c =
 pub loop-i-preserved : goal.loop-i-preserved
 loop-i-preserved c =
     let self = c.args.self.now in
-    let to = c.next_of-r.ensures in
+    let to = c.from-r.ensures in
     let w = reached_next self.bytes self.formed _ _ (omega arith) c.loop-i.invariant.0 in
     (to ∙ w.0, subst (λ r. r < 64) (sym to) w.1)
