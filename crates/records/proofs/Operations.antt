@@ -20,7 +20,7 @@ use Rattle.records.specs.Steps.{Stands, Stays, Appends, Clears, index_after}
 use Rattle.records.proofs.Links.{reached_order, same_links, inside, takes, joins}
 use Rattle.records.proofs.Codes.{words_set, count_beside, count_back, fill_count, same_code_at, fills, fill_code}
 
--- A word put by a copy of its bytes, and what else the check is told.
+-- what the check is told where a word is put
 pub ruleset copies = (copied_put)
 
 -- Reading.
@@ -59,6 +59,7 @@ free_within bytes f =
 pub code_past : (bytes : List ℕ) (place : ℕ) → count bytes ≤ place → None ≡ slice_get (code bytes) place
 code_past bytes place l = sym (slice_get_past (code bytes) place (rw length_code l))
 
+-- what the check is told where the code is read
 pub ruleset codes = (length_code, code_past)
 
 -- the word of a chunk of three behind the first byte of a record
@@ -208,7 +209,7 @@ module _ (bytes after : List ℕ) (w : Word) (last fresh : ℕ) (s : Stands byte
               few = omega arith;
               formed = append_formed;
               free = free_within after append_formed;
-              last' = subst (λ r. r < 64) (sym append_ends) (reached_within after append_formed _ (omega arith));
+              near = subst (λ r. r < 64) (sym append_ends) (reached_within after append_formed _ (omega arith));
               ends = append_ends;
             };
         stays = append_stays;
@@ -229,7 +230,7 @@ stands_empty bytes none f =
       few = omega arith;
       formed = f;
       free = free_within bytes f;
-      last' = omega arith;
+      near = omega arith;
       ends = sym (ap (λ c. reached bytes (records_for c)) none);
     }
 

@@ -12,7 +12,7 @@ pub record Stands (bytes : List ℕ) (last : ℕ) : Type 0 where
   pub few : count bytes ≤ 315
   pub formed : ∥ Formed bytes ∥₁
   pub free : first_free bytes < 64
-  pub last' : last < 64
+  pub near : last < 64
   pub ends : last ≡ reached bytes (records_for (count bytes))
 
 -- who stands in the rule's chain stands there afterwards
@@ -44,7 +44,7 @@ pub record Found (bytes : List ℕ) (place : ℕ) (w : Word) (at : Cursor) : Typ
   pub there : place < count bytes
   pub word : Some w ≡ slice_get (code bytes) place
   pub index : at.index ≡ place / 5 + 1
-  pub record' : at.record ≡ reached bytes at.index
+  pub stands : at.record ≡ reached bytes at.index
 
 -- where a reader stands in the chain after a place was read: past the end it does not move
 abbrev pub index_after : List ℕ → ℕ → ℕ → ℕ

@@ -1,4 +1,4 @@
-//! The steps of a memory, on its bytes alone.
+//! The steps of a memory, on its bytes alone. Between two steps the bytes are no memory, so these are not methods of one.
 
 ghost use Rattle.std.specs.Prelude.{◌≡◌, ◌<◌, length};
 ghost use Rattle.memory.specs.Bytes.{put};
@@ -38,7 +38,8 @@ fn recount(bytes: &mut [u8; 1024], to: u16)
 // Writes the k-th word of record r.
 #[tactic(auto, using(crate::proofs::Operations::copies))]
 fn put_word(bytes: &mut [u8; 1024], r: usize, k: usize, word: Word)
-    requires { (r < 64) × (k < 5) }
+    requires within { r < 64 }
+    requires kth { k < 5 }
     ensures { bytes.new ≡ put bytes.old (spot r k) word }
 {
     let at = 16 * r + (3 * k + 1);
@@ -49,7 +50,7 @@ fn put_word(bytes: &mut [u8; 1024], r: usize, k: usize, word: Word)
 fn open_record(bytes: &mut [u8; 1024], last: usize) -> usize
     requires { Stands bytes.old last }
     ensures bytes { bytes.new ≡ opened bytes.old last }
-    ensures record { result ≡ last_after bytes.old last }
+    ensures last { result ≡ last_after bytes.old last }
     ensures within { result < 64 }
 {
     if count_in(bytes) % 5 != 0 {

@@ -51,7 +51,9 @@ impl RecordMemory {
 
     // The record to which `index` links lead from record 0, found by going on from a cursor.
     fn walk(&self, from: Cursor, index: usize) -> usize
-        requires { (from.index ≤ index) × ((index ≤ records_for (count self.now.bytes)) × (from.record ≡ reached self.now.bytes from.index)) }
+        requires before { from.index ≤ index }
+        requires within { index ≤ records_for (count self.now.bytes) }
+        requires stands { from.record ≡ reached self.now.bytes from.index }
         ensures is { result ≡ reached self.now.bytes index }
         ensures within { result < 64 }
     {
@@ -62,9 +64,9 @@ impl RecordMemory {
         r
     }
 
-    #[tactic(auto, using(crate::proofs::Operations::codes))]
     // The word at a place, and where it was found, or none past the end. The walk begins at the cursor unless the place
     // lies before it.
+    #[tactic(auto, using(crate::proofs::Operations::codes))]
     fn find(&self, place: usize) -> Option<(Word, Cursor)>
         ensures { MatchOption result (count self.now.bytes ≤ place) (λ r. Found self.now.bytes place r.0 r.1) }
     {

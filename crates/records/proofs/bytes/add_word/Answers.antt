@@ -7,4 +7,4 @@ pub returns : goal.returns
 returns c =
     let bytes = c.args.bytes.now in
     let made : c.recount.new.bytes ≡ added bytes c.args.last c.args.word = cc in
-    appends bytes _ c.args.word c.args.last _ c.requires.stands c.requires.room made c.open_record-r.ensures.record
+    appends bytes _ c.args.word c.args.last _ c.requires.stands c.requires.room made c.open_record-r.ensures.last

@@ -12,5 +12,5 @@ returns c =
       there = omega arith;
       word = code_there self.bytes place c.walk-record.result c.from.result (size_formed self.bytes self.formed) (omega arith) record_is.within record_is.is (c.from.ensures ∙ ap (λ xs. get_or xs (place % 5) []) c.as_chunks.ensures.front);
       index = refl;
-      record' = record_is.is;
+      stands = record_is.is;
     }

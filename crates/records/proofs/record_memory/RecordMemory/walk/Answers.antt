@@ -5,7 +5,7 @@ use Rattle.records.proofs.record_memory.RecordMemory.walk.Goals as goal
 pub loop-i-init : goal.loop-i-init
 loop-i-init c =
     let self = c.args.self.now in
-    let is = c.requires.1.1 in
+    let is = c.requires.stands in
     (is, subst (λ r. r < 64) (sym is) (reached_within self.bytes self.formed c.args.from.index (omega arith)))
 
 pub loop-i-preserved : goal.loop-i-preserved
