@@ -1,84 +1,66 @@
 -- Words in bytes, one read and one written.
-use Rattle.std.proofs.Common.{◌≡◌, ℕ, zero, suc, ◌+◌, ◌*◌, ◌<◌, ◌≤◌, true, ltb, List, [], ◌∷◌, ◌++◌, map, length, get_or, set, Some, None, Ok, Err, sym, refl, ap, ◌∙◌, subst, arith, length-set}
-use Rattle.std.specs.List.{slice_get, range_with_len}
+use Rattle.std.proofs.Common.{◌≡◌, ℕ, ◌+◌, ◌-◌, ◌*◌, ◌/◌, ◌<◌, ◌≤◌, true, ltb, List, [], ◌∷◌, ◌++◌, length, get_or, take, Some, sym, ap, ◌∙◌, arith, length-set, length-take, get_or-take}
+use Rattle.std.specs.List.{slice_get}
+use Rattle.std.specs.Simd.{first_chunks}
 use Rattle.std.proofs.lemmas.List.FromFn.{length-map-range_with_len, get_or-map-range_with_len, map-range_with_len_more}
-use Rattle.std.proofs.lemmas.List.{get_or-set_same, get_or-set_other}
-use Rattle.std.proofs.lemmas.Option.{slice_get-get_or, slice_get_past}
-use Rattle.std.proofs.lemmas.Bool.{lt-ltb, cond-true}
+use Rattle.std.proofs.lemmas.Option.{slice_get-get_or}
+use Rattle.std.proofs.lemmas.Bool.{lt-ltb, le-ltb, cond-true, cond-false}
+use borrow.Rule.Slice.PartMut.{put_mid}
 use Rattle.bytecode.specs.declared.instruction.Word.{Word}
-use Rattle.refusal.specs.declared.Refusal.TheVariants.{MemoryFull}
-use Rattle.memory.specs.Flat.{word_at, words, room_in, put, Free}
+use Rattle.bytecode.specs.Words.{bytes_of}
+use Rattle.memory.specs.Bytes.{word_at, put}
+use Rattle.memory.specs.Lists.{appended}
+use Rattle.memory.specs.Flat.{words, room_in, put_in}
+use Rattle.memory.proofs.Bytes.{alike, same_bytes, beside, put_back, chunk_word, copied_put}
 
 -- there are as many words as are counted
-pub length-words : (bytes : List ℕ) (n : ℕ) → length (words bytes n) ≡ n
-length-words bytes n = length-map-range_with_len (word_at bytes) 0 n
+pub length_words : (bytes : List ℕ) (n : ℕ) → length (words bytes n) ≡ n
+length_words bytes n = length-map-range_with_len (λ i. word_at bytes (3 * i)) 0 n
 
-pub word_there : (bytes : List ℕ) (n i : ℕ) → i < n → Some (word_at bytes i) ≡ slice_get (words bytes n) i
-word_there bytes n i l =
-    let d = word_at bytes i in
-    let e : slice_get (words bytes n) i ≡ Some (get_or (words bytes n) i d) = slice_get-get_or (words bytes n) i d (rw length-words l) in
-    sym (e ∙ ap Some (get_or-map-range_with_len (word_at bytes) 0 n i i d l (omega arith)))
+-- the word of a chunk of three, among the first n words
+pub chunk_there :
+    (bytes : List ℕ) (n m i : ℕ) (w : Word) → m ≡ n → 3 * n ≤ length bytes → i < length (take (3 * m) bytes) / 3 →
+    bytes_of w ≡ get_or (first_chunks 3 (length (take (3 * m) bytes) / 3) (take (3 * m) bytes)) i [] → Some w ≡ slice_get (words bytes n) i
+chunk_there bytes n m i w is fits l e =
+    let within : i < n = omega (arith, length-take (3 * m) bytes) in
+    let a : w ≡ word_at (take (3 * m) bytes) (3 * i) = chunk_word (take (3 * m) bytes) _ i w l e in
+    let b : word_at (take (3 * m) bytes) (3 * i) ≡ word_at bytes (3 * i) = same_bytes bytes (take (3 * m) bytes) (3 * i) (λ j p q. get_or-take (3 * m) bytes j 0 (omega arith)) in
+    let d : slice_get (words bytes n) i ≡ Some (get_or (words bytes n) i w) = slice_get-get_or (words bytes n) i w (rw length_words within) in
+    sym (d ∙ ap Some (get_or-map-range_with_len (λ k. word_at bytes (3 * k)) 0 n i i w within (omega arith) ∙ sym (a ∙ b)))
 
-pub word_past : (bytes : List ℕ) (n i : ℕ) → n ≤ i → None ≡ slice_get (words bytes n) i
-word_past bytes n i l = sym (slice_get_past (words bytes n) i (rw length-words l))
-
-same_word : (x y : Word) → x.opcode ≡ y.opcode → x.sign ≡ y.sign → x.value ≡ y.value → x ≡ y
-same_word x y p q r = λ i. record { opcode = p i; sign = q i; value = r i }
-
--- a list by its index depends only on what stands at the indices
-same_counted : (f g : ℕ → Word) (a n : ℕ) → ((k : ℕ) → k < a + n → f k ≡ g k) → map f (range_with_len a n) ≡ map g (range_with_len a n)
-same_counted f g a zero h = refl
-same_counted f g a (suc n) h =
-    let e = h a (omega arith) in
-    let r = same_counted f g (a + 1) n (λ k l. h k (omega arith)) in
-    cc
-
--- a byte outside the three that are written is as it was
-past_word : (bytes : List ℕ) (n : ℕ) (w : Word) (j : ℕ) → j < 3 * n → get_or (put bytes n w) j 0 ≡ get_or bytes j 0
-past_word bytes n w j l =
-    let one = set bytes (3 * n) w.opcode in
-    let two = set one (3 * n + 1) w.sign in
-    get_or-set_other two (3 * n + 2) j w.value 0 (λ e. omega arith) ∙ (get_or-set_other one (3 * n + 1) j w.sign 0 (λ e. omega arith) ∙ get_or-set_other bytes (3 * n) j w.opcode 0 (λ e. omega arith))
-
-word_before : (bytes : List ℕ) (n : ℕ) (w : Word) (k : ℕ) → k < n → word_at (put bytes n w) k ≡ word_at bytes k
-word_before bytes n w k l =
-    same_word _ _ (past_word bytes n w (3 * k) (omega arith)) (past_word bytes n w (3 * k + 1) (omega arith)) (past_word bytes n w (3 * k + 2) (omega arith))
-
--- a word that is written is read back
-word_put : (bytes : List ℕ) (n : ℕ) (w : Word) → 3 * n + 2 < length bytes → word_at (put bytes n w) n ≡ w
-word_put bytes n w l =
-    let one = set bytes (3 * n) w.opcode in
-    let two = set one (3 * n + 1) w.sign in
-    let n1 : length one ≡ length bytes = simp length-set in
-    let n2 : length two ≡ length bytes = simp length-set in
-    let a : get_or (put bytes n w) (3 * n) 0 ≡ w.opcode = get_or-set_other two (3 * n + 2) (3 * n) w.value 0 (λ e. omega arith) ∙ (get_or-set_other one (3 * n + 1) (3 * n) w.sign 0 (λ e. omega arith) ∙ get_or-set_same bytes (3 * n) w.opcode 0 (omega arith)) in
-    let b : get_or (put bytes n w) (3 * n + 1) 0 ≡ w.sign = get_or-set_other two (3 * n + 2) (3 * n + 1) w.value 0 (λ e. omega arith) ∙ get_or-set_same one (3 * n + 1) w.sign 0 (omega arith) in
-    let c : get_or (put bytes n w) (3 * n + 2) 0 ≡ w.value = get_or-set_same two (3 * n + 2) w.value 0 (omega arith) in
-    same_word _ _ a b c
-
-pub words_put : (bytes : List ℕ) (n : ℕ) (w : Word) → 3 * n + 2 < length bytes → words (put bytes n w) (n + 1) ≡ words bytes n ++ w ∷ []
+-- a word put behind n words is one more
+pub words_put : (bytes : List ℕ) (n : ℕ) (w : Word) → 3 * n + 2 < length bytes → words (put bytes (3 * n) w) (n + 1) ≡ words bytes n ++ w ∷ []
 words_put bytes n w l =
-    let more : words (put bytes n w) (n + 1) ≡ words (put bytes n w) n ++ word_at (put bytes n w) n ∷ [] = map-range_with_len_more (word_at (put bytes n w)) 0 n n (omega arith) in
-    let same : words (put bytes n w) n ≡ words bytes n = same_counted (word_at (put bytes n w)) (word_at bytes) 0 n (λ k h. word_before bytes n w k (omega arith)) in
-    let here = word_put bytes n w l in
+    let after = put bytes (3 * n) w in
+    let more : words after (n + 1) ≡ words after n ++ word_at after (3 * n) ∷ [] = map-range_with_len_more (λ i. word_at after (3 * i)) 0 n n (omega arith) in
+    let same : words after n ≡ words bytes n = alike (λ i. word_at after (3 * i)) (λ i. word_at bytes (3 * i)) n (λ k h. same_bytes bytes after (3 * k) (λ j p q. beside bytes (3 * n) w.opcode (3 * n + 1) w.sign (3 * n + 2) w.value j (λ e. omega arith) (λ e. omega arith) (λ e. omega arith))) in
+    let here = put_back bytes (3 * n) w l in
     cc
 
--- below the capacity the next place is free
-free_next : (bytes : List ℕ) (n : ℕ) → n < room_in bytes → Free bytes n n
-free_next bytes n l =
-    let less : 3 * n + 2 < length bytes = omega arith in
-    let t : ltb (length (words bytes n)) (room_in bytes) ≡ true = rw length-words (lt-ltb n (room_in bytes) l) in
-    let u : ltb n (room_in bytes) ≡ true = lt-ltb n (room_in bytes) l in
-    record {
-      is = refl;
-      less = l;
-      answer = cond-true (ltb (length (words bytes n)) (room_in bytes)) (Ok tt) (Err (MemoryFull (room_in bytes))) t;
-      after = λ w. words_put bytes n w less ∙ sym (cond-true (ltb (length (words bytes n)) (room_in bytes)) (words bytes n ++ w ∷ []) (words bytes n) t);
-      count = λ any. length-words any (n + 1);
-      bytes' = λ w. sym (cond-true (ltb n (room_in bytes)) (put bytes n w) bytes u);
-    }
+-- The bytes of a word are copied behind n words, with room for it.
+module _ (bytes : List ℕ) (n place : ℕ) (part : List ℕ) (w : Word) (is : place ≡ length (words bytes n)) (fits : n ≤ room_in bytes)
+    (less : place ≡ room_in bytes → ⊥) (copied : part ≡ bytes_of w) where
+  added : put_mid (3 * place) (3 * place + 3 - 3 * place) bytes part ≡ put bytes (3 * n) w
+  added =
+      let same : place ≡ n = is ∙ length_words bytes n in copied_put bytes (3 * place) part w copied (omega arith) ∙ ap (λ k. put bytes (3 * k) w) same
 
-pub free_place : (bytes : List ℕ) (n place : ℕ) → place ≡ length (words bytes n) → place < room_in bytes → Free bytes n place
-free_place bytes n place e l =
-    let is : place ≡ n = e ∙ length-words bytes n in
-    subst (λ k. Free bytes n k) (sym is) (free_next bytes n (omega arith))
+  pub added_fits : n + 1 ≤ room_in (put_mid (3 * place) (3 * place + 3 - 3 * place) bytes part)
+  added_fits =
+      let same : place ≡ n = is ∙ length_words bytes n in rw added (simp length-set (omega arith))
+
+  pub added_listed : words (put_mid (3 * place) (3 * place + 3 - 3 * place) bytes part) (n + 1) ≡ appended (words bytes n) (room_in bytes) w
+  added_listed =
+      let same : place ≡ n = is ∙ length_words bytes n in
+      let t : ltb (length (words bytes n)) (room_in bytes) ≡ true = rw length_words (lt-ltb n (room_in bytes) (omega arith)) in
+      ap (λ after. words after (n + 1)) added ∙ (words_put bytes n w (omega arith) ∙ sym (cond-true _ (words bytes n ++ w ∷ []) (words bytes n) t))
+
+  pub added_written : put_mid (3 * place) (3 * place + 3 - 3 * place) bytes part ≡ put_in bytes n w
+  added_written =
+      let same : place ≡ n = is ∙ length_words bytes n in
+      added ∙ sym (cond-true _ (put bytes (3 * n) w) bytes (lt-ltb n (room_in bytes) (omega arith)))
+
+-- nothing is written where there is no room
+pub full_written : (bytes : List ℕ) (n : ℕ) (w : Word) → n ≡ room_in bytes → bytes ≡ put_in bytes n w
+full_written bytes n w e = sym (cond-false _ (put bytes (3 * n) w) bytes (le-ltb _ _ (omega arith)))
+
+pub ruleset flats = (length_words, added_fits, added_listed, added_written, full_written)

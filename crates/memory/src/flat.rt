@@ -3,36 +3,18 @@
 ghost use Rattle.std.specs.Prelude.{◌≡◌, ℕ, ◌≤◌, List, [], length, MatchResult};
 ghost use Rattle.std.specs.List.{slice_get};
 ghost use Rattle.memory.specs.Lists.{answered, appended};
-ghost use Rattle.memory.specs.Flat.{words, room_in, put_in, Free, Full};
+ghost use Rattle.memory.specs.Flat.{words, room_in, put_in};
 
 use crate::CodeMemory;
 use bytecode::Word;
 use refusal::Refusal;
 
-/// The word at place i is bytes 3i to 3i + 2. `fits` is what its methods keep; `counted` holds of any bytes, and is
-/// here so that the methods have it at hand.
+/// The word at place i is bytes 3i to 3i + 2.
 #[derive(Drop)]
 pub struct Flat<'a> {
     bytes: &'a mut [u8],
     used: u16,
     ghost fits: { used ≤ room_in bytes.now },
-    ghost counted: { (any : List ℕ) → length (words any used) ≡ used },
-}
-
-// The word at a place of the first `count` words, or none past them.
-fn word_at(bytes: &[u8], count: usize, place: usize) -> Option<Word>
-    requires { count ≤ room_in bytes.now }
-    ensures { result ≡ slice_get (words bytes.now count) place }
-{
-    if place < count {
-        Some(Word {
-            opcode: bytes[3 * place],
-            sign: bytes[3 * place + 1],
-            value: bytes[3 * place + 2],
-        })
-    } else {
-        None
-    }
 }
 
 impl<'a> Flat<'a> {
@@ -45,21 +27,9 @@ impl<'a> Flat<'a> {
     {
         Flat { bytes, used: 0 }
     }
-
-    // Where the next word goes, unless the memory is full.
-    fn next_place(&self) -> Result<usize, Refusal>
-        ensures { MatchResult result (Free self.now.bytes.now self.now.used) (Full self.now.bytes.now self.now.used) }
-    {
-        let place = self.count();
-        let capacity = self.capacity();
-        if place < capacity {
-            Ok(place)
-        } else {
-            Err(Refusal::MemoryFull(capacity))
-        }
-    }
 }
 
+#[tactic(auto, using(crate::proofs::Flats::flats))]
 impl<'a> CodeMemory for Flat<'a> {
     ghost listed = { λ m. words m.bytes.now m.used };
 
@@ -70,12 +40,13 @@ impl<'a> CodeMemory for Flat<'a> {
     }
 
     fn capacity(&self) -> usize {
-        let whole = self.bytes.len() / 3;
-        if whole < 4096 { whole } else { 4096 }
+        (self.bytes.len() / 3).min(4096)
     }
 
     fn at(&self, place: usize) -> Option<Word> {
-        word_at(self.bytes, self.count(), place)
+        let (words, _) = self.bytes[..3 * self.count()].as_chunks::<3>();
+        let bytes = words.get(place)?;
+        Some(Word::from(*bytes))
     }
 
     /// On success the three bytes of the new word are its own, and no other byte is altered; a refusal alters none.
@@ -86,10 +57,13 @@ impl<'a> CodeMemory for Flat<'a> {
         ensures bytes { self.new.bytes.now ≡ put_in self.old.bytes.now self.old.used word }
         ensures lent { self.new.bytes.ghost_name ≡ self.old.bytes.ghost_name }
     {
-        let place = self.next_place()?;
-        self.bytes[3 * place] = word.opcode;
-        self.bytes[3 * place + 1] = word.sign;
-        self.bytes[3 * place + 2] = word.value;
+        let capacity = self.capacity();
+        let place = self.count();
+        if place == capacity {
+            return Err(Refusal::MemoryFull(capacity));
+        }
+        let at = 3 * place;
+        self.bytes[at..at + 3].copy_from_slice(&<[u8; 3]>::from(word));
         self.used += 1;
         Ok(())
     }

@@ -1,5 +1,5 @@
 -- What a write does to the words.
-use Rattle.std.proofs.Common.{◌≡◌, ℕ, zero, suc, ◌+◌, ◌*◌, ◌/◌, ◌%◌, ◌<◌, ◌≤◌, ◌≢◌, List, [], ◌∷◌, ◌++◌, map, length, get_or, set, sym, refl, ap, ◌∙◌, inl, inr, arith, length-set}
+use Rattle.std.proofs.Common.{◌≡◌, ℕ, ◌+◌, ◌*◌, ◌/◌, ◌%◌, ◌<◌, ◌≤◌, ◌≢◌, List, [], ◌∷◌, ◌++◌, map, length, get_or, set, sym, refl, ap, ◌∙◌, inl, inr, arith, length-set}
 use mathlib.Core.List.{is_set}
 use base.Stored.{gnum, gcons, Coded, Coded-set}
 use Rattle.std.specs.List.{range_with_len}
@@ -7,12 +7,11 @@ use Rattle.std.proofs.lemmas.List.FromFn.{map-range_with_len_more}
 use Rattle.std.proofs.lemmas.List.{get_or-set_same, get_or-set_other}
 use Rattle.std.proofs.lemmas.Bool.{cases_eq}
 use Rattle.bytecode.specs.declared.instruction.Word.{Word}
-use Rattle.records.specs.Layout.{count, reached, spot, word_at, code_at, code, Linked}
-use Rattle.records.specs.Writes.{put, recounted, filled}
-use Rattle.records.proofs.Links.{differ, not_head, reached_order, same_links, beside, inside}
-
-same_word : (x y : Word) → x.opcode ≡ y.opcode → x.sign ≡ y.sign → x.value ≡ y.value → x ≡ y
-same_word x y p q r = λ i. record { opcode = p i; sign = q i; value = r i }
+use Rattle.records.specs.Layout.{count, reached, spot, code_at, code, Linked}
+use Rattle.memory.specs.Bytes.{word_at, put}
+use Rattle.memory.proofs.Bytes.{same_word, alike, same_bytes, beside, put_back}
+use Rattle.records.specs.Writes.{recounted, filled}
+use Rattle.records.proofs.Links.{differ, not_head, reached_order, same_links, inside}
 
 -- two lists of words are equal in at most one way
 word_coded : Coded Word
@@ -21,37 +20,6 @@ word_coded =
 
 pub words_set : (xs ys : List Word) (p q : xs ≡ ys) → p ≡ q
 words_set = is_set (Coded-set word_coded)
-
--- lists made from a function of the index are equal if the functions are at every index
-pub alike :
-    (f g : ℕ → Word) (a n : ℕ) → ((k : ℕ) → k < a + n → f k ≡ g k) → map f (range_with_len a n) ≡ map g (range_with_len a n)
-alike f g a zero h = refl
-alike f g a (suc n) h =
-    let here = h a (omega arith) in
-    let rest = alike f g (a + 1) n (λ k l. h k (omega arith)) in
-    cc
-
--- a word depends on its three bytes
-same_bytes :
-    (bytes after : List ℕ) (at : ℕ) →
-    ((j : ℕ) → at ≤ j → j ≤ at + 2 → get_or after j 0 ≡ get_or bytes j 0) → word_at after at ≡ word_at bytes at
-same_bytes bytes after at h =
-    let a = h at (omega arith) (omega arith) in
-    let b = h (at + 1) (omega arith) (omega arith) in
-    let c = h (at + 2) (omega arith) (omega arith) in
-    cc
-
--- a word that is put is read back
-put_back : (bytes : List ℕ) (at : ℕ) (w : Word) → at + 2 < length bytes → word_at (put bytes at w) at ≡ w
-put_back bytes at w l =
-    let one = set bytes at w.opcode in
-    let two = set one (at + 1) w.sign in
-    let size_one : length one ≡ length bytes = simp length-set in
-    let size_two : length two ≡ length bytes = simp length-set in
-    let a : get_or (put bytes at w) at 0 ≡ w.opcode = get_or-set_other two (at + 2) at w.value 0 (λ e. omega arith) ∙ (get_or-set_other one (at + 1) at w.sign 0 (λ e. omega arith) ∙ get_or-set_same bytes at w.opcode 0 (omega arith)) in
-    let b : get_or (put bytes at w) (at + 1) 0 ≡ w.sign = get_or-set_other two (at + 2) (at + 1) w.value 0 (λ e. omega arith) ∙ get_or-set_same one (at + 1) w.sign 0 (omega arith) in
-    let c : get_or (put bytes at w) (at + 2) 0 ≡ w.value = get_or-set_same two (at + 2) w.value 0 (omega arith) in
-    same_word _ _ a b c
 
 -- the count's two bytes
 pub count_beside : (bytes : List ℕ) (n j : ℕ) → j ≢ 2 → j ≢ 3 → get_or (recounted bytes n) j 0 ≡ get_or bytes j 0
@@ -142,6 +110,6 @@ module _ {bytes : List ℕ} {n : ℕ} {order place : ℕ → ℕ} (h : Linked by
       let after = filled bytes (order n) k w (c + 1) in
       let a = ap (λ i. map (code_at after) (range_with_len 0 i)) (fill_count bytes (order n) k w (c + 1) h.size) in
       let b = map-range_with_len_more (code_at after) 0 c c (omega arith) in
-      let d = alike (code_at after) (code_at bytes) 0 c (λ i l. fill_before i (omega arith)) in
+      let d = alike (code_at after) (code_at bytes) c (λ i l. fill_before i (omega arith)) in
       let e = fill_here in
       a ∙ (b ∙ (ap (λ xs. xs ++ code_at after c ∷ []) d ∙ ap (λ y. map (code_at bytes) (range_with_len 0 c) ++ y ∷ []) e))

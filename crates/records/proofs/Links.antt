@@ -2,6 +2,7 @@
 use Rattle.std.proofs.Common.{◌≡◌, ℕ, zero, suc, ◌+◌, ◌*◌, ◌<◌, ◌≤◌, ◌≢◌, List, length, get_or, set, sym, ap, ◌∙◌, inl, inr, add-one, arith, length-set}
 use Rattle.std.proofs.lemmas.List.{get_or-set_same, get_or-set_other}
 use Rattle.std.proofs.lemmas.Bool.{cases_eq, cases_lt}
+use Rattle.memory.proofs.Bytes.{beside}
 use Rattle.records.specs.Layout.{next, first_free, reached, Linked}
 use Rattle.records.specs.Writes.{taken, joined}
 
@@ -41,13 +42,6 @@ module _ {bytes : List ℕ} {n : ℕ} {order place : ℕ → ℕ} (h : Linked by
         ends = same (order n) (h.within n h.border) ∙ h.ends;
         free = free ∙ h.free;
       }
-
--- a byte that none of three writes touches
-pub beside :
-    (bytes : List ℕ) (a x b y c z j : ℕ) →
-    j ≢ a → j ≢ b → j ≢ c → get_or (set (set (set bytes a x) b y) c z) j 0 ≡ get_or bytes j 0
-beside bytes a x b y c z j p q r =
-    get_or-set_other (set (set bytes a x) b y) c j z 0 r ∙ (get_or-set_other (set bytes a x) b j y 0 q ∙ get_or-set_other bytes a j x 0 p)
 
 -- a byte behind the first of a record is the first of none
 pub inside : (r o j : ℕ) → 16 * o < j → j < 16 * o + 16 → j ≢ 16 * r

@@ -1,5 +1,5 @@
 -- Appending, clearing and reading, on the bytes of a memory.
-use Rattle.std.proofs.Common.{◌≡◌, ℕ, ◌+◌, ◌*◌, ◌/◌, ◌%◌, ◌<◌, ◌≤◌, true, eqb, ltb, List, [], ◌∷◌, ◌++◌, map, length, Some, None, Ok, Err, sym, refl, ap, ◌∙◌, subst, inl, inr, add-one, arith, length-set}
+use Rattle.std.proofs.Common.{◌≡◌, ℕ, ◌+◌, ◌-◌, ◌*◌, ◌/◌, ◌%◌, ◌<◌, ◌≤◌, true, eqb, ltb, List, [], ◌∷◌, ◌++◌, map, length, get_or, Some, None, Ok, Err, sym, refl, ap, ◌∙◌, subst, inl, inr, add-one, arith, length-set, length-take, length-drop}
 use mathlib.Core.Logic.{∥∥₁_elim, ∥∥₁_map}
 use native.Mathlib.Bridge.{le_prop}
 use native.Mathlib.Nat.{ℕ_set}
@@ -8,18 +8,25 @@ use Rattle.std.proofs.lemmas.List.FromFn.{length-map-range_with_len, get_or-map-
 use Rattle.std.proofs.lemmas.Option.{slice_get-get_or, slice_get_past}
 use Rattle.std.proofs.lemmas.Bool.{cases_eq, cond-true, cond-false, eq-eqb, ne_eqb, lt-ltb, le-ltb}
 use Rattle.bytecode.specs.declared.instruction.Word.{Word}
-use Rattle.bytecode.specs.Words.{word}
+use Rattle.std.specs.Simd.{first_chunks}
+use borrow.Rule.Slice.PartMut.{mid_of}
+use Rattle.bytecode.specs.Words.{bytes_of}
 use Rattle.refusal.specs.declared.Refusal.TheVariants.{MemoryFull}
-use Rattle.records.specs.Layout.{next, first_free, count, records_for, reached, spot, word_at, code_at, code, Linked, Formed}
-use Rattle.records.specs.Writes.{recounted, filled, taken, added, last_after, appended_in, joined, emptied, cleared_in}
+use Rattle.memory.specs.Bytes.{word_at}
+use Rattle.memory.proofs.Bytes.{alike, beside, part_word, copied_put, chunk_word}
+use Rattle.records.specs.Layout.{next, first_free, count, records_for, reached, spot, code_at, code, Linked, Formed}
+use Rattle.records.specs.Writes.{recounted, filled, taken, opened, added, last_after, appended_in, joined, emptied, cleared_in}
 use Rattle.records.specs.Steps.{Stands, Stays, Appends, Clears, index_after}
-use Rattle.records.proofs.Links.{reached_order, same_links, beside, inside, takes, joins}
-use Rattle.records.proofs.Codes.{words_set, alike, count_beside, count_back, fill_count, same_code_at, fills, fill_code}
+use Rattle.records.proofs.Links.{reached_order, same_links, inside, takes, joins}
+use Rattle.records.proofs.Codes.{words_set, count_beside, count_back, fill_count, same_code_at, fills, fill_code}
+
+-- what the check is told where a word is put
+pub ruleset copies = (copied_put)
 
 -- Reading.
 
-pub length-code : (bytes : List ℕ) → length (code bytes) ≡ count bytes
-length-code bytes = length-map-range_with_len (code_at bytes) 0 (count bytes)
+pub length_code : (bytes : List ℕ) → length (code bytes) ≡ count bytes
+length_code bytes = length-map-range_with_len (code_at bytes) 0 (count bytes)
 
 pub size_formed : (bytes : List ℕ) → ∥ Formed bytes ∥₁ → length bytes ≡ 1024
 size_formed bytes f = ∥∥₁_elim f (ℕ_set _ _) (λ w. w.1.1.size)
@@ -50,16 +57,22 @@ free_within bytes f =
     ])
 
 pub code_past : (bytes : List ℕ) (place : ℕ) → count bytes ≤ place → None ≡ slice_get (code bytes) place
-code_past bytes place l = sym (slice_get_past (code bytes) place (rw length-code l))
+code_past bytes place l = sym (slice_get_past (code bytes) place (rw length_code l))
 
+-- what the check is told where the code is read
+pub ruleset codes = (length_code, code_past)
+
+-- the word of a chunk of three behind the first byte of a record
 pub code_there :
-    (bytes : List ℕ) (place r : ℕ) (x : Word) → place < count bytes →
-    r ≡ reached bytes (place / 5 + 1) → x ≡ word_at bytes (spot r (place % 5)) → Some x ≡ slice_get (code bytes) place
-code_there bytes place r x l e is =
-    let d : Word = word 0 0 0 in
-    let p = slice_get-get_or (code bytes) place d (rw length-code l) in
-    let q = get_or-map-range_with_len (code_at bytes) 0 (count bytes) place place d l (omega arith) in
-    let s : x ≡ code_at bytes place = is ∙ ap (λ k. word_at bytes (spot k (place % 5))) e in
+    (bytes : List ℕ) (place r : ℕ) (x : Word) → length bytes ≡ 1024 → place < count bytes → r < 64 → r ≡ reached bytes (place / 5 + 1) →
+    bytes_of x ≡ get_or (first_chunks 3 (length (mid_of (16 * r + 1) (16 * r + 16 - (16 * r + 1)) bytes) / 3) (mid_of (16 * r + 1) (16 * r + 16 - (16 * r + 1)) bytes)) (place % 5) [] →
+    Some x ≡ slice_get (code bytes) place
+code_there bytes place r x size l within e is =
+    let part : List ℕ = mid_of (16 * r + 1) (16 * r + 16 - (16 * r + 1)) bytes in
+    let kth : place % 5 < length part / 3 = simp (length-take, length-drop) (omega arith) in
+    let s : x ≡ code_at bytes place = chunk_word part _ (place % 5) x kth is ∙ (part_word bytes (16 * r + 1) (16 * r + 16 - (16 * r + 1)) (3 * (place % 5)) (spot r (place % 5)) (omega arith) (omega arith) ∙ ap (λ k. word_at bytes (spot k (place % 5))) e) in
+    let p = slice_get-get_or (code bytes) place x (rw length_code l) in
+    let q = get_or-map-range_with_len (code_at bytes) 0 (count bytes) place place x l (omega arith) in
     ap (λ y. Some y) s ∙ (sym (ap (λ y. Some y) q) ∙ sym p)
 
 pub index_there : (bytes : List ℕ) (index place : ℕ) → place < count bytes → place / 5 + 1 ≡ index_after bytes index place
@@ -107,7 +120,7 @@ grows_full bytes f w none less =
     let after = filled base (order (n + 1)) 0 w (c + 1) in
     let one_more : records_for (c + 1) ≡ n + 1 = omega arith in
     let g : Linked base (n + 1) order f.1.0 = takes h (omega arith) in
-    let before : (i : ℕ) → i < 0 + c → code_at base i ≡ code_at bytes i =
+    let before : (i : ℕ) → i < c → code_at base i ≡ code_at bytes i =
     λ i l.
     same_code_at h g i (omega arith) (omega arith)
     (λ r t is some p q.
@@ -117,7 +130,7 @@ grows_full bytes f w none less =
     record {
       more = fill_count base (order (n + 1)) 0 w (c + 1) g.size;
       linked = subst (λ k. Linked after k order f.1.0) (sym one_more) (fills g c 0 (omega arith) (omega arith) (omega arith) w);
-      listed = fill_code g c 0 (omega arith) (omega arith) (omega arith) w ∙ ap (λ xs. xs ++ w ∷ []) (alike (code_at base) (code_at bytes) 0 c before);
+      listed = fill_code g c 0 (omega arith) (omega arith) (omega arith) w ∙ ap (λ xs. xs ++ w ∷ []) (alike (code_at base) (code_at bytes) c before);
       ends = sym (ap order one_more);
     }
 
@@ -134,15 +147,16 @@ grows bytes f w last less e =
       | inl z ↦
           let t = eq-eqb (c % 5) 0 z in
           let made = filled (taken bytes (order n) (order (n + 1))) (order (n + 1)) 0 w (c + 1) in
-          let a : added bytes last w ≡ made =
-          cond-true _ _ _ t ∙ (ap (λ r. filled (taken bytes r (first_free bytes)) (first_free bytes) 0 w (c + 1)) is ∙ ap (λ r. filled (taken bytes (order n) r) r 0 w (c + 1)) h.free) in
           let b : last_after bytes last ≡ order (n + 1) = cond-true (eqb (c % 5) 0) (first_free bytes) last t ∙ h.free in
+          let o : opened bytes last ≡ taken bytes (order n) (order (n + 1)) = cond-true (eqb (c % 5) 0) _ bytes t ∙ (ap (λ r. taken bytes r (first_free bytes)) is ∙ ap (taken bytes (order n)) h.free) in
+          let a : added bytes last w ≡ made = ap (λ bs. filled bs (last_after bytes last) (c % 5) w (c + 1)) o ∙ (ap (λ r. filled (taken bytes (order n) (order (n + 1))) r (c % 5) w (c + 1)) b ∙ ap (λ k. filled (taken bytes (order n) (order (n + 1))) (order (n + 1)) k w (c + 1)) z) in
           subst (λ bs. Grows bytes f w bs (last_after bytes last)) (sym a) (subst (λ r. Grows bytes f w made r) (sym b) (grows_full bytes f w z less))
       | inr u ↦
           let t = ne_eqb (c % 5) 0 u in
           let made = filled bytes (order n) (c % 5) w (c + 1) in
-          let a : added bytes last w ≡ made = cond-false _ _ _ t ∙ ap (λ r. filled bytes r (c % 5) w (c + 1)) is in
           let b : last_after bytes last ≡ order n = cond-false (eqb (c % 5) 0) (first_free bytes) last t ∙ is in
+          let o : opened bytes last ≡ bytes = cond-false (eqb (c % 5) 0) _ bytes t in
+          let a : added bytes last w ≡ made = ap (λ bs. filled bs (last_after bytes last) (c % 5) w (c + 1)) o ∙ ap (λ r. filled bytes r (c % 5) w (c + 1)) b in
           subst (λ bs. Grows bytes f w bs (last_after bytes last)) (sym a) (subst (λ r. Grows bytes f w made r) (sym b) (grows_open bytes f w u))
     ]
 
@@ -188,13 +202,14 @@ module _ (bytes after : List ℕ) (w : Word) (last fresh : ℕ) (s : Stands byte
   pub appends : Appends bytes w after fresh
   appends =
       let more = append_more in
-      let room : ltb (length (code bytes)) 315 ≡ true = ap (λ n. ltb n 315) (length-code bytes) ∙ lt-ltb _ _ less in
+      let room : ltb (length (code bytes)) 315 ≡ true = ap (λ n. ltb n 315) (length_code bytes) ∙ lt-ltb _ _ less in
       record {
         stands =
             record {
               few = omega arith;
-              counted = length-code after;
               formed = append_formed;
+              free = free_within after append_formed;
+              near = subst (λ r. r < 64) (sym append_ends) (reached_within after append_formed _ (omega arith));
               ends = append_ends;
             };
         stays = append_stays;
@@ -213,8 +228,9 @@ pub stands_empty : (bytes : List ℕ) → count bytes ≡ 0 → ∥ Formed bytes
 stands_empty bytes none f =
     record {
       few = omega arith;
-      counted = length-code bytes;
       formed = f;
+      free = free_within bytes f;
+      near = omega arith;
       ends = sym (ap (λ c. reached bytes (records_for c)) none);
     }
 

@@ -4,7 +4,7 @@
 use Rattle.std.specs.Prelude.{◌≡◌, ℕ, zero, suc, ◌+◌, ◌*◌, ◌/◌, ◌%◌, ◌<◌, ◌≤◌, cond, ◌&&◌, List, map, length, ◌==◌, ◌≢◌, nat_lt, slice_index}
 use Rattle.std.specs.List.{range_with_len}
 use Rattle.bytecode.specs.declared.instruction.Word.{Word}
-use Rattle.bytecode.specs.Words.{word}
+use Rattle.memory.specs.Bytes.{word_at}
 
 -- the record that r names as its next; record 0 so names the rule's first
 abbrev pub next : List ℕ → ℕ → ℕ
@@ -28,9 +28,6 @@ reached bytes (suc i) = next bytes (reached bytes i)
 -- the first byte of the k-th word of record r, from k = 0
 abbrev pub spot : ℕ → ℕ → ℕ
 spot r k = 16 * r + (3 * k + 1)
-
-abbrev pub word_at : List ℕ → ℕ → Word
-word_at bytes at = word (slice_index bytes at) (slice_index bytes (at + 1)) (slice_index bytes (at + 2))
 
 -- the word at a place of the code: five words to a record, the records in the order of their chain
 abbrev pub code_at : List ℕ → ℕ → Word

@@ -1,16 +1,18 @@
 -- What each step on the bytes comes to, for the memory that has them.
-use Rattle.std.specs.Prelude.{◌≡◌, ℕ, ◌+◌, ◌/◌, ◌≤◌, cond, List, [], length, Ok, Err, nat_lt, slice_index}
+use Rattle.std.specs.Prelude.{◌≡◌, ℕ, ◌+◌, ◌/◌, ◌<◌, ◌≤◌, cond, List, [], Ok, Some, nat_lt, slice_index}
 use Rattle.bytecode.specs.declared.instruction.Word.{Word}
-use Rattle.refusal.specs.declared.Refusal.{Refusal}
+use Rattle.std.specs.List.{slice_get}
+use Rattle.records.specs.declared.cursor.Cursor.{Cursor}
 use Rattle.memory.specs.Lists.{answered, appended}
-use Rattle.records.specs.Layout.{count, records_for, reached, code, Formed, blank}
+use Rattle.records.specs.Layout.{first_free, count, records_for, reached, code, Formed, blank}
 use Rattle.records.specs.Writes.{appended_in, cleared_in}
 
 -- the bytes are a memory whose rule ends with record `last`
 pub record Stands (bytes : List ℕ) (last : ℕ) : Type 0 where
   pub few : count bytes ≤ 315
-  pub counted : length (code bytes) ≡ count bytes
   pub formed : ∥ Formed bytes ∥₁
+  pub free : first_free bytes < 64
+  pub near : last < 64
   pub ends : last ≡ reached bytes (records_for (count bytes))
 
 -- who stands in the rule's chain stands there afterwards
@@ -26,14 +28,6 @@ pub record Appends (before : List ℕ) (w : Word) (bytes : List ℕ) (last : ℕ
   pub after : code bytes ≡ appended (code before) 315 w
   pub written : bytes ≡ appended_in before w
 
--- no room for it
-pub record Refuses (before : List ℕ) (w : Word) (last : ℕ) (bytes : List ℕ) (why : Refusal) : Type 0 where
-  pub stands : Stands bytes last
-  pub stays : Stays before bytes
-  pub answer : Err why ≡ answered (code before) 315
-  pub after : code bytes ≡ appended (code before) 315 w
-  pub written : bytes ≡ appended_in before w
-
 pub record Clears (before bytes : List ℕ) : Type 0 where
   pub stands : Stands bytes 0
   pub after : code bytes ≡ []
@@ -44,6 +38,13 @@ pub record Blank (bytes : List ℕ) : Type 0 where
   pub stands : Stands bytes 0
   pub after : code bytes ≡ []
   pub written : (k : ℕ) → slice_index bytes k ≡ blank 63 k
+
+-- a word of the code, and the cursor where it was found
+pub record Found (bytes : List ℕ) (place : ℕ) (w : Word) (at : Cursor) : Type 0 where
+  pub there : place < count bytes
+  pub word : Some w ≡ slice_get (code bytes) place
+  pub index : at.index ≡ place / 5 + 1
+  pub stands : at.record ≡ reached bytes at.index
 
 -- where a reader stands in the chain after a place was read: past the end it does not move
 abbrev pub index_after : List ℕ → ℕ → ℕ → ℕ

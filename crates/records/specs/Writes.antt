@@ -1,11 +1,8 @@
 -- The bytes that each operation leaves.
 use Rattle.std.specs.Prelude.{ℕ, ◌+◌, ◌*◌, ◌/◌, ◌%◌, cond, List, ◌==◌, nat_lt, slice_set}
 use Rattle.bytecode.specs.declared.instruction.Word.{Word}
+use Rattle.memory.specs.Bytes.{put}
 use Rattle.records.specs.Layout.{next, first_free, count, records_for, reached, spot}
-
--- a word's three bytes, from `at` on
-abbrev pub put : List ℕ → ℕ → Word → List ℕ
-put bytes at w = slice_set (slice_set (slice_set bytes at w.opcode) (at + 1) w.sign) (at + 2) w.value
 
 -- the count, high byte first
 abbrev pub recounted : List ℕ → ℕ → List ℕ
@@ -19,15 +16,17 @@ filled bytes r k w n = recounted (put bytes (spot r k) w) n
 abbrev pub taken : List ℕ → ℕ → ℕ → List ℕ
 taken bytes last fresh = slice_set (slice_set (slice_set bytes 1 (next bytes fresh)) (16 * last) fresh) (16 * fresh) 0
 
--- one more word: in a fresh record if the count is a multiple of five, else in the rule's last
-abbrev pub added : List ℕ → ℕ → Word → List ℕ
-added bytes last w =
-    cond (count bytes % 5 == 0) (filled (taken bytes last (first_free bytes)) (first_free bytes) 0 w (count bytes + 1))
-    (filled bytes last (count bytes % 5) w (count bytes + 1))
-
--- the rule's last record after that
+-- the record where the next word goes: a fresh one if the count is a multiple of five, else the rule's last
 abbrev pub last_after : List ℕ → ℕ → ℕ
 last_after bytes last = cond (count bytes % 5 == 0) (first_free bytes) last
+
+-- that record is then the rule's last
+abbrev pub opened : List ℕ → ℕ → List ℕ
+opened bytes last = cond (count bytes % 5 == 0) (taken bytes last (first_free bytes)) bytes
+
+-- one more word
+abbrev pub added : List ℕ → ℕ → Word → List ℕ
+added bytes last w = filled (opened bytes last) (last_after bytes last) (count bytes % 5) w (count bytes + 1)
 
 -- an append: nothing is written where 315 words stand
 abbrev pub appended_in : List ℕ → Word → List ℕ

@@ -6,3 +6,11 @@ pub struct Cursor {
     pub record: usize,
     pub index: usize,
 }
+
+impl Cursor {
+    /// Before the rule's first record.
+    pub const HEAD: Cursor = Cursor {
+        record: 0,
+        index: 0,
+    };
+}

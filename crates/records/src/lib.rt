@@ -2,13 +2,10 @@
 
 #![tactic(auto)]
 
-mod append;
 mod bytes;
-mod clear;
 mod cursor;
 mod laws;
 mod record_memory;
-mod start;
 
 pub use laws::chains_move;
 pub use record_memory::RecordMemory;

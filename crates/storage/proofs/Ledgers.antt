@@ -1,13 +1,12 @@
 -- One more operation, and one more answer.
-use Rattle.std.proofs.Common.{◌≡◌, ℕ, ◌+◌, ◌<◌, ◌≤◌, Bool, false, ltb, List, [], ◌∷◌, ◌++◌, length, get_or, take, drop, set, sym, refl, ap, ◌∙◌, inl, inr, arith, length-append, length-set, below_more}
-use Rattle.std.proofs.lemmas.List.{get_or-set_same, get_or-set_other, drop-set-lt, length-take-le, take_all, take-append-le}
+use Rattle.std.proofs.Common.{◌≡◌, ℕ, ◌+◌, ◌<◌, Bool, false, ltb, List, [], ◌∷◌, ◌++◌, length, get_or, take, set, sym, refl, ap, ◌∙◌, inl, inr, arith, length-append, length-set, below_more}
+use Rattle.std.proofs.lemmas.List.{get_or-set_same, get_or-set_other, length-take-le, take_all, take-append-le}
 use Rattle.std.proofs.lemmas.List.Sums.{fold_more}
 use Rattle.std.proofs.lemmas.Bool.{cases_lt, cond-true, cond-false, lt-ltb, le-ltb}
 use Rattle.bytecode.specs.declared.instruction.Word.{Word}
 use Rattle.storage.specs.declared.Operation.{Operation}
 use Rattle.storage.specs.declared.Operation.TheVariants.{Append, Clear}
 use Rattle.storage.specs.Ledger.{performed, done, noted, ledger, ToldBelow}
-use Rattle.storage.specs.Written.{wrote, written}
 
 -- what there is room for leaves as much room as all that was asked for
 room_alike : (room : ℕ) (xs : List Word) → ltb (length (take room xs)) room ≡ ltb (length xs) room
@@ -59,24 +58,3 @@ module _ (room : ℕ) (operations : List Operation) (i : ℕ) (within : i < leng
       (λ fits.
       let l : i < length answers = omega (arith, ap length put, length-set answers i answer) in
       ap (λ ys. get_or ys i false) put ∙ (get_or-set_same answers i answer false l ∙ told_here answer e))
-
--- the answers past the operations
-pub rest_more :
-    (answers after first : List Bool) (n i : ℕ) (answer : Bool) →
-    i < n → after ≡ set answers i answer → drop n answers ≡ drop n first → drop n after ≡ drop n first
-rest_more answers after first n i answer l put same = ap (drop n) put ∙ (drop-set-lt n answers i answer l ∙ same)
-
--- the operations are all performed
-pub all_performed :
-    (room : ℕ) (operations : List Operation) (i : ℕ) (listed : List Word) →
-    listed ≡ take room (ledger (take i operations)) → length operations ≤ i → listed ≡ take room (ledger operations)
-all_performed room operations i listed e l = e ∙ ap (λ os. take room (ledger os)) (take_all i operations l)
-
--- one more operation, in bytes
-pub more_written :
-    (bytes : List ℕ) (operations : List Operation) (i : ℕ) → i < length operations →
-    (operation : Operation) (before after : List ℕ) →
-    operation ≡ get_or operations i Clear →
-    before ≡ written bytes (take i operations) → after ≡ wrote before operation → after ≡ written bytes (take (i + 1) operations)
-more_written bytes operations i within operation before after is b e =
-    e ∙ (ap (λ bs. wrote bs operation) b ∙ (ap (wrote (written bytes (take i operations))) is ∙ sym (fold_more wrote bytes operations i Clear within)))

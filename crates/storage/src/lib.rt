@@ -26,10 +26,7 @@ fn perform<M: CodeMemory>(memory: &mut M, operation: Operation) -> bool
     ensures answer { result ≡ done (M.CodeMemory.room memory.old) (M.CodeMemory.listed memory.old) operation }
 {
     match operation {
-        Operation::Append(word) => match memory.append(word) {
-            Ok(()) => true,
-            Err(_) => false,
-        },
+        Operation::Append(word) => memory.append(word).is_ok(),
         Operation::Clear => {
             memory.clear();
             true
@@ -37,7 +34,8 @@ fn perform<M: CodeMemory>(memory: &mut M, operation: Operation) -> bool
     }
 }
 
-// Writes an answer at its place, if there is one.
+// Writes an answer at its place, if there is one. By its index, since a proof does not know what a write through `get_mut`
+// leaves in the slice.
 fn write_answer(answers: &mut [bool], i: usize, answer: bool)
     ensures { answers.new ≡ slice_set answers.old i answer }
 {
@@ -46,7 +44,8 @@ fn write_answer(answers: &mut [bool], i: usize, answer: bool)
     }
 }
 
-// Performs the operations on an empty memory.
+// Performs the operations on an empty memory. The answers are the caller's and may be fewer, so none is taken with its
+// operation by `zip`.
 fn perform_all<M: CodeMemory>(memory: &mut M, operations: &[Operation], answers: &mut [bool])
     requires { M.CodeMemory.listed memory.old ≡ [] }
     ensures same { M.CodeMemory.room memory.new ≡ M.CodeMemory.room memory.old }

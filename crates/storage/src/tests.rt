@@ -5,20 +5,12 @@ use records::RecordMemory;
 use refusal::Refusal;
 
 fn word(opcode: u8) -> Word {
-    Word {
-        opcode,
-        sign: 1,
-        value: 9,
-    }
+    Word::from([opcode, 1, 9])
 }
 
 fn numbered(i: u16) -> Word {
     let [sign, opcode] = i.to_be_bytes();
-    Word {
-        opcode,
-        sign,
-        value: 7,
-    }
+    Word::from([opcode, sign, 7])
 }
 
 // The records 1 to 63 are free, each with the next number behind it.

@@ -7,6 +7,7 @@ use crate::Operation;
 use memory::CodeMemory;
 use records::RecordMemory;
 
+// Beside `perform`, which is proved of what the trait says; and the trait says nothing of bytes.
 fn write_one(memory: &mut RecordMemory, operation: Operation)
     ensures { memory.new.bytes ≡ wrote memory.old.bytes operation }
 {

@@ -1,16 +1,16 @@
-use Rattle.std.proofs.Common.{◌≡◌, length, get_or, refl, ap, ◌∙◌, arith, length-set}
+use Rattle.std.proofs.Common.{◌≡◌, ◌+◌, ◌*◌, get_or, set, refl, ap, ◌∙◌, arith, length-set}
 use Rattle.records.specs.Layout.{blank}
 use Rattle.records.proofs.Blanks.{blank_start, blank_more, blank_bytes}
-use Rattle.records.proofs.start.blank_bytes.Goals as goal
+use Rattle.records.proofs.bytes.blank_bytes.Goals as goal
 
 pub loop-r-init : goal.loop-r-init
 loop-r-init c = (refl, blank_start)
 
 pub loop-r-preserved : goal.loop-r-preserved
 loop-r-preserved c =
-    let size = c.loop-r.invariant.0 in
-    let is = c.link_free.ensures in
-    (ap length is ∙ (length-set _ _ _ ∙ size), λ k. ap (λ bs. get_or bs k 0) is ∙ blank_more c.loop-r.bytes c.loop-r.r (omega arith) (omega arith) c.loop-r.invariant.1 k)
+    let bytes = c.loop-r.bytes in
+    let r = c.loop-r.r in
+    (length-set _ _ _ ∙ c.loop-r.invariant.0, λ k. ap (λ i. get_or (set bytes (16 * i) (r + 1)) k 0) c.from.ensures ∙ blank_more bytes r (omega arith) (omega arith) c.loop-r.invariant.1 k)
 
 pub returns : goal.returns
 returns c =
