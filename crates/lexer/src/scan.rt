@@ -1,4 +1,5 @@
-//! The token that a text begins with.
+//! The token that a text begins with, and how many bytes it has.
+// The two are a pair, as in the definitions: each clause is then one equation, where a struct would be taken apart.
 
 ghost use Rattle.std.specs.Prelude.{◌≡◌, cond, nat_lt, Some, None, slice_index};
 ghost use Rattle.language.specs.Tokens.{value_from, numeral, word, mark, numeral_at, word_at, is_minus, scanned};
