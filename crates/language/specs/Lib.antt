@@ -7,3 +7,4 @@ pub mod Frames
 pub mod Fold
 pub mod Reading
 pub mod Code
+pub mod Types

@@ -27,3 +27,16 @@ pub struct Entry {
     /// The byte of the text where the operator, the opening word or the token begins.
     pub place: usize,
 }
+
+impl Entry {
+    /// The entry with nothing in it, all zero.
+    pub const BLANK: Entry = Entry {
+        kind: Kind::Blank,
+        number: Argument {
+            negative: false,
+            size: 0,
+        },
+        size: 0,
+        place: 0,
+    };
+}

@@ -1,7 +1,11 @@
 //! The operators of the rule language, each with its row: how tightly it binds, what it takes and gives, and the
 //! instruction that works it out.
 
+ghost use Rattle.std.specs.Prelude.{Some};
+ghost use Rattle.language.specs.Types.{type_text};
+
 use bytecode::{Argument, Instruction};
+use std::fmt;
 
 /// The type of a value: a whole number or a truth value.
 #[derive(Clone, Copy, PartialEq, Eq, Debug, Default)]
@@ -9,6 +13,18 @@ pub enum ValueType {
     #[default]
     Number,
     Truth,
+}
+
+/// The type's name: `number` or `truth`.
+impl fmt::Display for ValueType {
+    ghost output = { λ t. Some (type_text t) };
+
+    fn fmt<W: fmt::Write>(&self, f: &mut fmt::Formatter<W>) -> fmt::Result {
+        f.write_str(match self {
+            ValueType::Number => "number",
+            ValueType::Truth => "truth",
+        })
+    }
 }
 
 /// An operator between two operands.

@@ -4,6 +4,8 @@ use crate::operator::{Operator, Prefix};
 use bytecode::Argument;
 
 /// What begins at a place of the text, behind any blanks.
+// The end and what is no token stand beside the tokens, not in a `Result`: the grammar's fold reads them as letters,
+// and each law over lists of tokens would carry the error too.
 #[derive(Clone, Copy, PartialEq, Eq, Debug)]
 pub enum TokenKind {
     Number(Argument),

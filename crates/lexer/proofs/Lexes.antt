@@ -1,28 +1,32 @@
 -- The steps of the lexer give the tokens of the text.
-use Rattle.std.proofs.Common.{◌≡◌, ℕ, ◌+◌, ◌-◌, ◌<◌, ◌≤◌, true, false, cond, eqb, ◌⊎◌, List, length, get_or, take, drop, sym, ap, ◌∙◌, inl, inr, arith}
-use Rattle.std.proofs.lemmas.List.{take_rest}
-use Rattle.std.proofs.lemmas.Bool.{cond-false, ne_eqb, cases_lt}
-use Rattle.language.specs.Tokens.{run_of, is_blank, is_digit, is_small, is_minus, mark, begun, numeral_at, word_at, longer, scanned, Lexeme, lexeme, lexeme_at, begins, after}
+use Rattle.std.proofs.Common.{◌≡◌, ℕ, ◌+◌, ◌-◌, ◌<◌, ◌≤◌, Bool, true, cond, ◌&&◌, eqb, List, length, get_or, take, drop, Some, None, Option, ap, ◌∙◌, arith}
+use Rattle.std.proofs.lemmas.Bool.{cond_both, eqb-false}
+use Rattle.std.proofs.lemmas.List.{take_rest, length-drop, get_or_past}
+use Rattle.language.specs.Tokens.{run_of, is_blank, is_digit, is_small, is_word, is_minus, one_mark, mark_by, begun, scanned, Lexeme, lexeme, lexeme_at, begins, after}
 use Rattle.language.specs.declared.token.TokenKind.{TokenKind}
 use Rattle.language.specs.declared.token.TokenKind.TheVariants.{End}
+use Rattle.lexer.proofs.Runs.{run_within}
 
-pub scan_mark : (bs : List ℕ) (t : TokenKind × ℕ) (b c : ℕ) → (length bs ≡ 0 → ⊥) → b ≡ get_or bs 0 0 → c ≡ get_or bs 1 0 → is_digit b ≡ false → is_minus b c ≡ false → is_small b ≡ false → t ≡ mark b c → t ≡ scanned bs
-scan_mark bs t b c some first second digit minus small e =
-    let kept : scanned bs ≡ begun (get_or bs 0 0) (get_or bs 1 0) bs = cond-false (eqb (length bs) 0) (End, 0) (begun (get_or bs 0 0) (get_or bs 1 0) bs) (ne_eqb (length bs) 0 some) in
-    let here : begun (get_or bs 0 0) (get_or bs 1 0) bs ≡ begun b c bs = ap (λ x. begun x (get_or bs 1 0) bs) (sym first) ∙ ap (λ x. begun b x bs) (sym second) in
-    let last : begun b c bs ≡ mark b c =
-    cond-false (is_digit b) (numeral_at false bs) (cond (is_minus b c) (longer (numeral_at true (drop 1 bs))) (cond (is_small b) (word_at bs) (mark b c))) digit
-    ∙ (cond-false (is_minus b c) (longer (numeral_at true (drop 1 bs))) (cond (is_small b) (word_at bs) (mark b c)) minus
-    ∙ cond-false (is_small b) (word_at bs) (mark b c) small) in
-    e ∙ sym (kept ∙ (here ∙ last))
+one_within : (one : Option TokenKind) (n : ℕ) → 1 ≤ n → (mark_by None one).1 ≤ n
+one_within (Some k) n h = h
+one_within None n h = omega arith
 
--- a mark of two bytes stands within a text that has a second byte
-pub mark_within : (n len second : ℕ) → n ≤ 2 → (1 < n → 0 < second) → (0 < second → 1 < len) → (len ≡ 0 → ⊥) → n ≤ len
-mark_within n len second few two found some = by (cases_lt 1 n)
-  where
-    by : (1 < n) ⊎ (n ≤ 1) → n ≤ len
-    by (inl h) = let l = found (two h) in omega arith
-    by (inr h) = omega arith
+two_within : (b : Bool) (k : TokenKind) (two one : Option TokenKind) (n : ℕ) → (b ≡ true → 2 ≤ n) → (mark_by two one).1 ≤ n → (mark_by (cond b (Some k) two) one).1 ≤ n
+two_within b k two one n f h = cond_both b (Some k) two (λ t. (mark_by t one).1 ≤ n) f (λ _. h)
+
+begun_within : (b c : ℕ) (bs : List ℕ) → 1 ≤ length bs → (0 < c → 1 < length bs) → (begun b c bs).1 ≤ length bs
+begun_within b c bs some two =
+    cond_both {A = TokenKind × ℕ} (is_digit b) _ _ (λ t. t.1 ≤ length bs) (λ t. run_within is_digit bs) (λ f.
+    cond_both {A = TokenKind × ℕ} (is_minus b c) _ _ (λ t. t.1 ≤ length bs) (λ t. let h = run_within is_digit (drop 1 bs) in let l = length-drop 1 bs in omega arith) (λ f.
+    cond_both {A = TokenKind × ℕ} (is_small b) _ _ (λ t. t.1 ≤ length bs) (λ t. run_within is_word bs) (λ f.
+    two_within (eqb b 43 && eqb c 43) _ _ _ _ (λ e. grind arith) (two_within (eqb b 38 && eqb c 38) _ _ _ _ (λ e. grind arith) (two_within (eqb b 124 && eqb c 124) _ _ _ _ (λ e. grind arith) (two_within (eqb b 60 && eqb c 61) _ _ _ _ (λ e. grind arith) (one_within (one_mark b) _ some)))))))
+
+-- a token ends within the text that it begins
+pub scanned_within : (bs : List ℕ) → (scanned bs).1 ≤ length bs
+scanned_within bs =
+    cond_both {A = TokenKind × ℕ} (eqb (length bs) 0) (End, 0) _ (λ t. t.1 ≤ length bs) (λ e. omega arith) (λ e.
+    let some = eqb-false (length bs) 0 e in
+    begun_within (get_or bs 0 0) (get_or bs 1 0) bs (omega arith) (λ h. grind (arith, get_or_past)))
 
 module _ (text : List ℕ) (at n : ℕ) (t : TokenKind × ℕ)
     (run : n ≡ run_of is_blank (take (length text - at) (drop at text)))
@@ -42,3 +46,13 @@ module _ (text : List ℕ) (at n : ℕ) (t : TokenKind × ℕ)
 
   pub next_place : at + n + t.1 ≡ after text at
   next_place = ap (λ (u : TokenKind × ℕ). at + n + u.1) token_is ∙ ap (λ q. q + (scanned (drop q text)).1) place_is
+
+  pub next_within : at ≤ length text → at + n + t.1 ≤ length text
+  next_within h =
+      let blanks = run_within is_blank (drop at text) in
+      let token = scanned_within (drop (at + n) text) in
+      let one : t.1 ≡ (scanned (drop (at + n) text)).1 = ap (λ (u : TokenKind × ℕ). u.1) token_is in
+      let a = length-drop at text in
+      let b = length-drop (at + n) text in
+      let e : n ≡ run_of is_blank (drop at text) = run ∙ ap (run_of is_blank) (take_rest text at) in
+      omega arith

@@ -7,5 +7,5 @@ mod cursor;
 mod next;
 mod scan;
 
-pub use bytes::same;
+pub use bytes::{is_blank, same};
 pub use cursor::Lexer;

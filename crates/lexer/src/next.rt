@@ -4,7 +4,7 @@ ghost use Rattle.std.specs.Prelude.{◌≡◌, ℕ, ◌≤◌, length};
 ghost use Rattle.language.specs.Tokens.{Lexeme, lexeme, after};
 ghost use Rattle.lexer.specs.Lexing.{plain};
 
-use crate::bytes::{Class, run};
+use crate::bytes::{is_blank, run};
 use crate::cursor::Lexer;
 use crate::scan::scan;
 use language::Token;
@@ -24,16 +24,13 @@ impl<'a> Lexer<'a> {
         ensures moved { self.new.at ≡ after self.old.text.now self.old.at }
         ensures same { self.new.text ≡ self.old.text }
     {
-        let text = self.text;
-        let at = self.at;
-        let place = at + run(Class::Blank, &text[at..]);
-        let (kind, length) = scan(&text[place..]);
-        let end = place + length;
-        self.at = end;
+        let place = self.at + run(&self.text[self.at..], is_blank);
+        let (kind, length) = scan(&self.text[place..]);
+        self.at = place + length;
         Token {
             kind,
             place,
-            text: &text[place..end],
+            text: &self.text[place..self.at],
         }
     }
 }

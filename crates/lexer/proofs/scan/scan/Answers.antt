@@ -1,15 +1,10 @@
-use Rattle.std.proofs.Common.{sym, ◌∙◌}
-use Rattle.lexer.proofs.Lexes.{scan_mark, mark_within}
+use Rattle.std.proofs.Common.{rules, ap, drop, take, length, ◌-◌}
+use Rattle.language.specs.Tokens.{is_digit}
+use Rattle.lexer.proofs.Runs.{run_within}
 use Rattle.lexer.proofs.scan.scan.Goals as goal
 
-pub returns-else-is_small : goal.returns-else-is_small
-returns-else-is_small c =
-    record {
-      value =
-          scan_mark c.args.text.now c.mark_of.result c.byte-first.result c.byte-second.result c.if-text-eq0.false c.byte-first.ensures.value c.byte-second.ensures.value
-          (sym c.is_digit.ensures ∙ c.if-is_digit.false)
-          (sym c.is_minus.ensures ∙ c.if-is_minus.false)
-          (sym c.is_small.ensures ∙ c.if-is_small.false)
-          c.mark_of.ensures.value;
-      within = mark_within _ _ _ c.mark_of.ensures.few c.mark_of.ensures.two c.byte-second.ensures.found c.if-text-eq0.false;
-    }
+pub overflow_add-result : goal.overflow_add-result
+overflow_add-result c =
+    let e = ap (λ t. t.1) c.numeral_at-kind.ensures in
+    let w = run_within is_digit (take (length c.args.text.now - 1) (drop 1 c.args.text.now)) in
+    search (rules, e, w)
