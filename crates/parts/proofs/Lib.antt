@@ -1,2 +1,1 @@
-pub mod Tables
-mod Roots
+pub mod Roots

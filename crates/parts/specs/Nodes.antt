@@ -1,45 +1,79 @@
 -- The root of a tree, as its table shows it.
-use Rattle.std.specs.Prelude.{ℕ, ◌+◌, ◌-◌, ◌<◌, ◌≤◌, cond, Some, None, Option, nat_le}
+use Rattle.std.specs.Prelude.{◌≡◌, ℕ, ◌+◌, ◌-◌, ◌<◌, Bool, cond, List, ◌++◌, length, take}
 use Rattle.bytecode.specs.Words.{plus}
-use Rattle.language.specs.Tree.{Tree, number, truth, name, prefix, binary, choose, bind, size}
+use Rattle.bytecode.specs.declared.argument.Argument.{Argument}
+use Rattle.language.specs.Tree.{Tree, number, truth, name, prefix, binary, choose, bind, flatten}
+use Rattle.language.specs.declared.entry.Entry.{Entry}
 use Rattle.language.specs.declared.operator.Operator.{Operator}
+use Rattle.language.specs.declared.operator.Prefix.{Prefix as PrefixOperator}
 use Rattle.parts.specs.declared.node.Node.{Node}
-use Rattle.parts.specs.declared.node.Node.TheVariants.{Broken, Number, Truth, Name, Prefix, Binary, If, Let}
+use Rattle.parts.specs.declared.node.Node.TheVariants.{Number, Truth, Name, Prefix, Binary, If, Let}
 
--- a part begins where the sizes of those before it end
-abbrev pub node_of : Tree → Node
-node_of (number k p) = Number k
-node_of (truth b p) = Truth (plus (cond b 1 0))
-node_of (name k p) = Name k p
-node_of (prefix o p t) = Prefix o p
-node_of (binary o p t u) = Binary o p (size t)
-node_of (choose p t u v) = If p (size t) (size t + size u)
-node_of (bind p t u) = Let (size t)
+-- what a node's tree is, and that its parts are the tables of the tree's parts
+pub record NumberRoot (t : Tree) (k : Argument) : Type 0 where
+  pub place : ℕ
+  pub is : t ≡ number k place
 
--- the parts lie in order before the last of n entries
-abbrev pub Within : ℕ → Node → Type 0
-Within n Broken = Unit {0}
-Within n (Number k) = 0 < n
-Within n (Truth k) = 0 < n
-Within n (Name k p) = 0 < n
-Within n (Prefix o p) = 0 < n
-Within n (Binary o p c) = c < n
-Within n (If p c d) = (c ≤ d) × (d < n)
-Within n (Let c) = c < n
+pub record TruthRoot (t : Tree) (k : Argument) : Type 0 where
+  pub which : Bool
+  pub place : ℕ
+  pub is : t ≡ truth which place
+  pub worth : k ≡ plus (cond which 1 0)
 
--- where a part of that size begins that ends at n
-abbrev pub before : ℕ → ℕ → Option ℕ
-before n s = cond (nat_le s n) (Some (n - s)) None
+pub record PrefixRoot (t : Tree) (o : PrefixOperator) (p : ℕ) (a : List Entry) : Type 0 where
+  pub part : Tree
+  pub is : t ≡ prefix o p part
+  pub whole : a ≡ flatten part
 
--- a node from where its parts begin, if that can be told
-abbrev pub binary_at : Operator → ℕ → Option ℕ → Node
-binary_at o p None = Broken
-binary_at o p (Some c) = Binary o p c
+pub record BinaryRoot (t : Tree) (o : Operator) (p : ℕ) (a b : List Entry) : Type 0 where
+  pub left : Tree
+  pub right : Tree
+  pub is : t ≡ binary o p left right
+  pub front : a ≡ flatten left
+  pub back : b ≡ flatten right
 
-abbrev pub choose_at : ℕ → Option ℕ → ℕ → Node
-choose_at p None d = Broken
-choose_at p (Some c) d = If p c d
+pub record ChooseRoot (t : Tree) (p : ℕ) (a b c : List Entry) : Type 0 where
+  pub test : Tree
+  pub first : Tree
+  pub second : Tree
+  pub is : t ≡ choose p test first second
+  pub front : a ≡ flatten test
+  pub middle : b ≡ flatten first
+  pub back : c ≡ flatten second
 
-abbrev pub bind_at : Option ℕ → Node
-bind_at None = Broken
-bind_at (Some c) = Let c
+pub record BindRoot (t : Tree) (a b : List Entry) : Type 0 where
+  pub value : Tree
+  pub rest : Tree
+  pub place : ℕ
+  pub is : t ≡ bind place value rest
+  pub front : a ≡ flatten value
+  pub back : b ≡ flatten rest
+
+abbrev pub RootOf : Tree → Node → Type 0
+RootOf t (Number k) = NumberRoot t k
+RootOf t (Truth k) = TruthRoot t k
+RootOf t (Name k p) = t ≡ name k p
+RootOf t (Prefix o p a) = PrefixRoot t o p a.now
+RootOf t (Binary o p a b) = BinaryRoot t o p a.now b.now
+RootOf t (If p a b c) = ChooseRoot t p a.now b.now c.now
+RootOf t (Let a b) = BindRoot t a.now b.now
+
+-- the parts are, in order, the entries before the last
+abbrev pub Within : List Entry → Node → Type 0
+Within es (Number k) = 0 < length es
+Within es (Truth k) = 0 < length es
+Within es (Name k p) = 0 < length es
+Within es (Prefix o p a) = a.now ≡ take (length es - 1) es
+Within es (Binary o p a b) = a.now ++ b.now ≡ take (length es - 1) es
+Within es (If p a b c) = (a.now ++ b.now) ++ c.now ≡ take (length es - 1) es
+Within es (Let a b) = a.now ++ b.now ≡ take (length es - 1) es
+
+-- so they have an entry less than the table
+abbrev pub Shorter : ℕ → Node → Type 0
+Shorter n (Number k) = 0 < n
+Shorter n (Truth k) = 0 < n
+Shorter n (Name k p) = 0 < n
+Shorter n (Prefix o p a) = length a.now + 1 ≡ n
+Shorter n (Binary o p a b) = length a.now + length b.now + 1 ≡ n
+Shorter n (If p a b c) = length a.now + length b.now + length c.now + 1 ≡ n
+Shorter n (Let a b) = length a.now + length b.now + 1 ≡ n

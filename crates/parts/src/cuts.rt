@@ -1,83 +1,47 @@
 //! Where the parts of a table begin, by their sizes.
 
-ghost use Rattle.std.specs.Prelude.{◌≡◌, ◌≤◌, List, ◌++◌, length, IfSome, Some};
+ghost use Rattle.std.specs.Prelude.{◌≡◌, List, ◌++◌, length, MatchOption, IfSome};
 ghost use Rattle.language.specs.Tree.{Tree, flatten};
-ghost use Rattle.parts.specs.Nodes.{before, binary_at, choose_at, bind_at, Within, node_of};
+ghost use Rattle.parts.specs.Nodes.{RootOf, Within, Shorter};
 
 use crate::node::Node;
-use language::{Entry, Kind, Operator};
+use language::{Entry, Kind};
 
-// Where a part of this size begins that ends at n.
-fn back(n: usize, size: usize) -> Option<usize>
-    ensures { result ≡ before n size }
+// The last part, which is as long as its last entry says, and behind which nothing stands; and what stands before it.
+fn cut(entries: &[Entry]) -> Option<(&[Entry], &[Entry])>
+    ensures within { IfSome result (λ p. entries.now ≡ p.0.now ++ p.1.now) }
+    ensures value { (xs : List Entry) (t : Tree) → entries.now ≡ xs ++ flatten t → MatchOption result ⊥ (λ p. (p.0.now ≡ xs) × (p.1.now ≡ flatten t)) }
 {
-    if size <= n { Some(n - size) } else { None }
+    let size = entries.last()?.size;
+    let start = entries.len().checked_sub(size)?;
+    Some(entries.split_at(start))
 }
 
-// Where the part that ends last begins, as the size in its last entry says.
-fn cut(entries: &[Entry]) -> Option<usize>
-    ensures within { IfSome result (λ c. c ≤ length entries.now) }
-    ensures value { (xs : List Entry) (t : Tree) → entries.now ≡ xs ++ flatten t → result ≡ Some (length xs) }
+/// The root of the table, with its parts, if the table has an entry that can be the root of a tree.
+pub fn root(entries: &[Entry]) -> Option<Node<'_>>
+    ensures within { IfSome result (Within entries.now) }
+    ensures shorter { IfSome result (Shorter (length entries.now)) }
+    ensures value { (t : Tree) → entries.now ≡ flatten t → MatchOption result ⊥ (RootOf t) }
 {
-    let n = entries.len();
-    if n == 0 {
-        return None;
-    }
-    back(n, entries[n - 1].size)
-}
-
-// An operator between two operands, if they can be told apart.
-fn binary(operator: Operator, place: usize, second: Option<usize>) -> Node
-    ensures { result ≡ binary_at operator place second }
-{
-    match second {
-        Some(second) => Node::Binary(operator, place, second),
-        None => Node::Broken,
-    }
-}
-
-// An if with where its branches begin, if they can be told apart.
-fn choice(place: usize, second: Option<usize>, third: usize) -> Node
-    ensures { result ≡ choose_at place second third }
-{
-    match second {
-        Some(second) => Node::If(place, second, third),
-        None => Node::Broken,
-    }
-}
-
-// A let with where its body begins, if there is one.
-fn binding(body: Option<usize>) -> Node
-    ensures { result ≡ bind_at body }
-{
-    match body {
-        Some(body) => Node::Let(body),
-        None => Node::Broken,
-    }
-}
-
-/// The root of the table, with where its parts begin.
-pub fn root(entries: &[Entry]) -> Node
-    ensures within { Within (length entries.now) result }
-    ensures value { (t : Tree) → entries.now ≡ flatten t → result ≡ node_of t }
-{
-    let n = entries.len();
-    if n == 0 {
-        return Node::Broken;
-    }
-    let last = entries[n - 1];
-    let parts = &entries[0..n - 1];
+    let (last, parts) = entries.split_last()?;
     match last.kind {
-        Kind::Blank => Node::Broken,
-        Kind::Number => Node::Number(last.number),
-        Kind::Truth => Node::Truth(last.number),
-        Kind::Name => Node::Name(last.number.size, last.place),
-        Kind::Prefix(operator) => Node::Prefix(operator, last.place),
-        Kind::Binary(operator) => binary(operator, last.place, cut(parts)),
-        Kind::If => match cut(parts) {
-            Some(third) => choice(last.place, cut(&parts[0..third]), third),
-            None => Node::Broken,
-        },
-        Kind::Let => binding(cut(parts)),
+        Kind::Blank => None,
+        Kind::Number => Some(Node::Number(last.number)),
+        Kind::Truth => Some(Node::Truth(last.number)),
+        Kind::Name => Some(Node::Name(last.number.size, last.place)),
+        Kind::Prefix(operator) => Some(Node::Prefix(operator, last.place, parts)),
+        Kind::Binary(operator) => {
+            let (first, second) = cut(parts)?;
+            Some(Node::Binary(operator, last.place, first, second))
+        }
+        Kind::If => {
+            let (front, third) = cut(parts)?;
+            let (first, second) = cut(front)?;
+            Some(Node::If(last.place, first, second, third))
+        }
+        Kind::Let => {
+            let (first, second) = cut(parts)?;
+            Some(Node::Let(first, second))
+        }
     }
 }

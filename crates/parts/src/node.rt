@@ -1,25 +1,23 @@
 //! The root of a table, with its parts.
 
 use bytecode::Argument;
-use language::{Operator, Prefix};
+use language::{Entry, Operator, Prefix};
 
-/// The last entry of a table, with its place and with where its parts begin. Its first part begins at 0, and its last part ends before it.
+/// The last entry of a table, with its place and with the tables of its parts.
 #[derive(Clone, Copy)]
-pub enum Node {
-    /// No entry, or none that can be the root of a tree.
-    Broken,
+pub enum Node<'t> {
     /// The constant.
     Number(Argument),
     /// 1 or 0.
     Truth(Argument),
     /// The position of its binding, and its place.
     Name(u8, usize),
-    /// The operator and its place.
-    Prefix(Prefix, usize),
-    /// The operator, its place, and where the second operand begins.
-    Binary(Operator, usize, usize),
-    /// Its place, and where the two branches begin.
-    If(usize, usize, usize),
-    /// Where the body begins.
-    Let(usize),
+    /// The operator, its place, and its operand.
+    Prefix(Prefix, usize, &'t [Entry]),
+    /// The operator, its place, and its two operands.
+    Binary(Operator, usize, &'t [Entry], &'t [Entry]),
+    /// Its place, its condition, and its two branches.
+    If(usize, &'t [Entry], &'t [Entry], &'t [Entry]),
+    /// The value that is bound, and the body.
+    Let(&'t [Entry], &'t [Entry]),
 }

@@ -10,9 +10,6 @@ shape l h w = record { length = l; tall = h; wide = w }
 abbrev pub shape_of : Tree → Shape
 shape_of t = shape (long t) (tall t) (wide t)
 
-abbrev pub leaf_shape : Shape
-leaf_shape = shape 1 0 None
-
 abbrev pub prefix_shape : Shape → Shape
 prefix_shape a = shape (a.length + 3) (max a.tall 1) a.wide
 

@@ -1,34 +1,14 @@
 //! The shape of a table's code, from the shapes of its parts.
 
 ghost use Rattle.std.specs.Prelude.{◌≡◌, ◌*◌, ◌^◌, ◌<◌, ◌≤◌, length};
-ghost use Rattle.language.specs.Code.{or_else};
 ghost use Rattle.language.specs.Tree.{Tree, flatten};
-ghost use Rattle.shapes.specs.Shapes.{shape_of, leaf_shape, prefix_shape, pair_shape, choice_shape, wide_at};
+ghost use Rattle.shapes.specs.Shapes.{shape_of, prefix_shape, pair_shape, choice_shape, wide_at};
 
 use crate::shape::Shape;
 use language::Entry;
 use parts::{Node, root};
 
-// The first place.
-fn first(a: Option<usize>, b: Option<usize>) -> Option<usize>
-    ensures { result ≡ or_else a b }
-{
-    match a {
-        Some(place) => Some(place),
-        None => b,
-    }
-}
-
-// A single word.
-fn leaf() -> Shape
-    ensures { result ≡ leaf_shape }
-{
-    Shape {
-        length: 1,
-        tall: 0,
-        wide: None,
-    }
-}
+// No invariant of Shape can keep the bounds that these functions ask for, since each adds to the length of a part.
 
 // A prefix: its operand is pushed, and a constant worked in.
 fn prefix(a: Shape) -> Shape
@@ -52,7 +32,7 @@ fn pair(a: Shape, b: Shape) -> Shape
     Shape {
         length: a.length + 1 + b.length + 1,
         tall: a.tall.max(b.tall + 1),
-        wide: first(a.wide, b.wide),
+        wide: a.wide.or(b.wide),
     }
 }
 
@@ -60,11 +40,7 @@ fn pair(a: Shape, b: Shape) -> Shape
 fn wide_at(place: usize, then_length: usize, else_length: usize) -> Option<usize>
     ensures { result ≡ wide_at place then_length else_length }
 {
-    if then_length > 254 || else_length > 253 {
-        Some(place)
-    } else {
-        None
-    }
+    (then_length > 254 || else_length > 253).then_some(place)
 }
 
 // An if: a jump behind its condition, and one behind its else code.
@@ -78,7 +54,7 @@ fn choice(place: usize, a: Shape, b: Shape, c: Shape) -> Shape
     Shape {
         length: a.length + 1 + c.length + 1 + b.length,
         tall: a.tall.max(b.tall.max(c.tall)),
-        wide: first(a.wide, first(b.wide, first(c.wide, own))),
+        wide: a.wide.or(b.wide).or(c.wide).or(own),
     }
 }
 
@@ -88,32 +64,15 @@ pub fn measure(entries: &[Entry]) -> Shape
     ensures tall { result.tall ≤ length entries.now }
     ensures value { (t : Tree) → entries.now ≡ flatten t → result ≡ shape_of t }
 {
-    let n = entries.len();
     match root(entries) {
-        Node::Broken => Shape {
-            length: 0,
-            tall: 0,
-            wide: None,
-        },
-        Node::Number(_) => leaf(),
-        Node::Truth(_) => leaf(),
-        Node::Name(_, _) => leaf(),
-        Node::Prefix(_, _) => prefix(measure(&entries[0..n - 1])),
-        Node::Binary(_, _, second) => {
-            let a = measure(&entries[0..second]);
-            let b = measure(&entries[second..n - 1]);
-            pair(a, b)
+        None => Shape::default(),
+        Some(Node::Number(_) | Node::Truth(_) | Node::Name(_, _)) => Shape::WORD,
+        Some(Node::Prefix(_, _, part)) => prefix(measure(part)),
+        Some(Node::Binary(_, _, first, second) | Node::Let(first, second)) => {
+            pair(measure(first), measure(second))
         }
-        Node::If(place, second, third) => {
-            let a = measure(&entries[0..second]);
-            let b = measure(&entries[second..third]);
-            let c = measure(&entries[third..n - 1]);
-            choice(place, a, b, c)
-        }
-        Node::Let(body) => {
-            let a = measure(&entries[0..body]);
-            let b = measure(&entries[body..n - 1]);
-            pair(a, b)
+        Some(Node::If(place, test, first, second)) => {
+            choice(place, measure(test), measure(first), measure(second))
         }
     }
 }

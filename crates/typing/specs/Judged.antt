@@ -1,5 +1,5 @@
 -- What the judge answers.
-use Rattle.std.specs.Prelude.{ℕ, zero, suc, ◌&&◌, List, [], ◌∷◌, Ok, Err, Result, slice_index_or}
+use Rattle.std.specs.Prelude.{ℕ, ◌&&◌, Ok, Err, Result}
 use Rattle.refusal.specs.declared.Refusal.{Refusal}
 use Rattle.refusal.specs.declared.Refusal.TheVariants.{IllTyped}
 use Rattle.language.specs.Operators.{row_of, prefix_row_of}
@@ -7,17 +7,12 @@ use Rattle.language.specs.Typing.{same_type, fitting}
 use Rattle.language.specs.declared.operator.Operator.{Operator}
 use Rattle.language.specs.declared.operator.Prefix.{Prefix}
 use Rattle.language.specs.declared.operator.ValueType.{ValueType}
-use Rattle.language.specs.declared.operator.ValueType.TheVariants.{Number, Truth}
+use Rattle.language.specs.declared.operator.ValueType.TheVariants.{Truth}
 
 -- a place where types do not fit is a refusal
 abbrev pub judged : Result ValueType ℕ → Result ValueType Refusal
 judged (Ok a) = Ok a
 judged (Err p) = Err (IllTyped p)
-
--- the first n types of an array, the last of them first
-abbrev pub innermost : List ValueType → ℕ → List ValueType
-innermost xs zero = []
-innermost xs (suc n) = slice_index_or xs n Number ∷ innermost xs n
 
 -- the type of a node at the place p from the types of its parts
 abbrev pub prefixed : Prefix → ℕ → ValueType → Result ValueType ℕ

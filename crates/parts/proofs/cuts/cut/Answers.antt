@@ -1,9 +1,24 @@
-use Rattle.std.proofs.Common.{◌∙◌}
-use Rattle.parts.proofs.Roots.{cut_is, not_empty, before_within}
+use Rattle.std.proofs.Common.{◌≡◌, ℕ, length, take, drop, sym, ap, ◌∙◌, arith}
+use Rattle.std.proofs.lemmas.List.{take_at, drop_at}
+use Rattle.language.specs.Tree.{flatten}
+use Rattle.parts.proofs.Roots.{last_entry, last_part}
 use Rattle.parts.proofs.cuts.cut.Goals as goal
 
-pub returns-then-n-eq0 : goal.returns-then-n-eq0
-returns-then-n-eq0 c = record { within = tt; value = λ xs t h. absurd (not_empty _ xs t h c.if-n-eq0.true) }
+pub returns-in_err-size-clause-value : goal.returns-in_err-size-clause-value
+returns-in_err-size-clause-value c xs t h =
+    let e = last_entry xs t c.args.entries.now h in
+    let k = c.in_err-size.ensures.value in
+    let z : ◌≡◌ {A = ℕ} 0 1 = cc in absurd (omega arith)
 
-pub returns : goal.returns
-returns c = record { within = before_within _ _ _ c.back.ensures; value = λ xs t h. c.back.ensures ∙ cut_is _ xs t _ h }
+pub returns-in_err-start-clause-value : goal.returns-in_err-start-clause-value
+returns-in_err-start-clause-value c xs t h =
+    let n = last_part xs t c.args.entries.now c.in_ok-size.field-0.now h c.in_ok-size.ensures.value in
+    absurd (c.in_err-start.ensures n.0)
+
+pub returns-clause-value : goal.returns-clause-value
+returns-clause-value c xs t h =
+    let n = last_part xs t c.args.entries.now c.in_ok-size.field-0.now h c.in_ok-size.ensures.value in
+    let at : length xs ≡ c.in_ok-start.start = n.1 ∙ sym c.in_ok-start.ensures.1 in (
+      c.split_at.ensures.front ∙ ap (take c.in_ok-start.start) h ∙ take_at xs (flatten t) c.in_ok-start.start at,
+      c.split_at.ensures.back ∙ ap (drop c.in_ok-start.start) h ∙ drop_at xs (flatten t) c.in_ok-start.start at,
+    )

@@ -1,2 +1,0 @@
-mod Scopes
-mod Verdicts
