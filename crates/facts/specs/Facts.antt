@@ -11,8 +11,8 @@ use Rattle.language.specs.declared.operator.Operator.TheVariants.{AtMost, Plus, 
 use Rattle.language.specs.declared.operator.ValueType.TheVariants.{Number}
 use Rattle.arithmetic.specs.Words.{round_ops, ranged_ops}
 use Rattle.machine.specs.Runs.{answered}
-use Rattle.machine.specs.declared.registers.Finished.{Finished}
-use Rattle.machine.specs.declared.registers.Halt.{Halt}
+use Rattle.machine.specs.declared.outcome.Finished.{Finished}
+use Rattle.machine.specs.declared.outcome.Halt.{Halt}
 
 -- if weight <= 30 then 2 else 5
 abbrev pub choice : Tree

@@ -1,3 +1,3 @@
 pub mod Held
-mod Moves
+mod Bases
 mod Turns

@@ -1,86 +1,69 @@
 -- A turn of a run, and how a run ends.
-use Rattle.std.proofs.Common.{◌≡◌, ℕ, zero, suc, ◌+◌, ◌-◌, ◌<◌, ◌≤◌, List, ◌++◌, length, take, Some, None, Ok, Err, Option, Result, sym, ap, ◌∙◌, subst, arith}
+use Rattle.std.proofs.Common.{◌≡◌, ℕ, zero, suc, ◌+◌, ◌-◌, ◌<◌, ◌≤◌, Bool, true, false, cond, ◌==◌, List, ◌++◌, length, drop, Some, None, Ok, Err, Option, Result, sym, ap, ◌∙◌, arith, take-append-drop}
 use Rattle.std.proofs.lemmas.Bool.{cond-true, cond-false, ne_eqb, eq-eqb}
+use Rattle.std.proofs.lemmas.List.{reverse-reverse}
+use Rattle.std.specs.Result.{MatchResult}
 use Rattle.arithmetic.specs.Words.{Ops}
 use Rattle.bytecode.specs.declared.instruction.Instruction.{Instruction}
 use Rattle.bytecode.specs.declared.instruction.Word.{Word}
 use Rattle.refusal.specs.declared.Refusal.{Refusal}
 use Rattle.refusal.specs.declared.Refusal.TheVariants.{BudgetSpent}
-use Rattle.machine.specs.declared.registers.Registers.{Registers}
+use Rattle.machine.specs.declared.processor.Processor.{Processor}
 use Rattle.machine.specs.Steps.{State, place, fetch, step}
-use Rattle.machine.specs.Runs.{Ended, ended, goes, runs, ran, left}
-use Rattle.machine.specs.Slices.{state_of, Moved}
-use Rattle.machine.proofs.Held.{laid}
+use Rattle.machine.specs.Runs.{Ended, ended, goes, runs, left}
+use Rattle.machine.specs.Processors.{state_at, led, runs_on, Stepped}
 
-module _ {W : Type 0} (ops : Ops W) (end : ℕ) (fetch : ℕ → Option (Instruction × ℕ)) (s : State W) where
+module _ {W : Type 0} (ops : Ops W) (end : ℕ) (get : ℕ → Option (Instruction × ℕ)) (s : State W) where
   -- at the end of the code
-  pub over : (b : ℕ) → place s ≡ end → runs ops end fetch b s ≡ ended s None
+  over : (b : ℕ) → place s ≡ end → runs ops end get b s ≡ ended s None
   over zero e = cond-true _ _ _ (eq-eqb (place s) end e)
   over (suc b) e = cond-true _ _ _ (eq-eqb (place s) end e)
 
   -- before it
-  module _ (before : place s < end) (whole : Ended W) (b : ℕ) (rest : runs ops end fetch b s ≡ whole) where
-    pub spent : b ≡ 0 → whole ≡ ended s (Some (BudgetSpent (place s)))
-    spent e = sym rest ∙ ap (λ m. runs ops end fetch m s) e ∙ cond-false _ _ _ (ne_eqb (place s) end (λ z. omega arith))
+  more : (b : ℕ) → (place s ≡ end → ⊥) → runs ops end get (suc b) s ≡ goes s (step ops end get s) (λ u. runs ops end get b u)
+  more b before = cond-false _ _ _ (ne_eqb (place s) end before)
 
-    module _ (more : 0 < b) (r : Result (State W) Refusal) (is : step ops end fetch s ≡ r) where
-      gone : goes s r (λ u. runs ops end fetch (b - 1) u) ≡ whole
-      gone =
-          let e : suc (b - 1) ≡ b = omega arith in
-          let one : runs ops end fetch (suc (b - 1)) s ≡ goes s (step ops end fetch s) (λ u. runs ops end fetch (b - 1) u) = cond-false _ _ _ (ne_eqb (place s) end (λ z. omega arith)) in
-          sym (ap (λ x. goes s x (λ u. runs ops end fetch (b - 1) u)) is) ∙ sym one ∙ ap (λ m. runs ops end fetch m s) e ∙ rest
+-- the words that a run leaves are those that the processor has
+pub leaves : {W : Type 0} (m : Processor W) (p n : ℕ) (why : Option Refusal) (whole : Ended W) → whole ≡ ended (state_at p m n) why → m.words.now ≡ left whole
+leaves m p n why whole e =
+    sym (ap left e ∙ ap (λ xs. xs ++ drop m.height m.words.now) (reverse-reverse _) ∙ take-append-drop m.height m.words.now)
 
-    pub refused : 0 < b → (why : Refusal) → step ops end fetch s ≡ Err why → whole ≡ ended s (Some why)
-    refused more why is = sym (gone more (Err why) is)
+-- In the middle of a run, after n steps: what is left of the budget, spent from here, ends as the whole run does.
+pub record Going {W : Type 0} (ops : Ops W) (code : List Word) (budget : ℕ) (whole : Ended W) (m : Processor W) (n : ℕ) : Type 0 where
+  pub end : m.end ≡ length code
+  pub rest : runs_on ops code (budget - n) m n ≡ whole
 
-    pub turned : 0 < b → (u : State W) → step ops end fetch s ≡ Ok u → runs ops end fetch (b - 1) u ≡ whole
-    turned more u is = gone more (Ok u) is
+module _ {W : Type 0} (ops : Ops W) (code : List Word) (budget : ℕ) (whole : Ended W) (m : Processor W) (n : ℕ) (go : Going ops code budget whole m n) where
+  pub ends : m.next ≡ m.end → whole ≡ ended (state_at m.next m n) None
+  ends e = sym go.rest ∙ over ops (length code) (fetch code) (state_at m.next m n) (budget - n) (e ∙ go.end)
 
--- In the middle of a run: the registers fit, the words below the base are as they were, and what is left of the budget,
--- spent from here, ends as the whole run does.
-pub record Going {W : Type 0} (ops : Ops W) (code : List Word) (from : List W) (base top budget : ℕ) (xs : List W) (now : Registers W) (n : ℕ) : Type 0 where
-  pub afford : n ≤ budget
-  pub on : now.place ≤ length code
-  pub above : base ≤ now.height
-  pub within : now.height ≤ length xs
-  pub below : take base xs ≡ take base from
-  pub rest : runs ops (length code) (fetch code) (budget - n) (state_of xs base now n) ≡ ran ops code from base top budget
+  -- at the end of the budget
+  settled : (b : Bool) → whole ≡ cond b (ended (state_at m.next m n) None) (ended (state_at m.next m n) (Some (BudgetSpent m.next))) → m.words.now ≡ left whole
+  settled true e = leaves m m.next n None whole e
+  settled false e = leaves m m.next n (Some (BudgetSpent m.next)) whole e
 
-module _ {W : Type 0} (ops : Ops W) (code : List Word) (from : List W) (base top budget : ℕ) (xs : List W) (now : Registers W) (n : ℕ)
-    (go : Going ops code from base top budget xs now n) (end : ℕ) (is : end ≡ length code) where
-  pub ends : now.place ≡ end → ran ops code from base top budget ≡ ended (state_of xs base now n) None
-  ends e = sym go.rest ∙ over ops (length code) (fetch code) (state_of xs base now n) (budget - n) (e ∙ is)
+  pub stands : budget ≤ n → m.words.now ≡ left whole
+  stands none =
+      let z : budget - n ≡ 0 = omega arith in
+      settled (m.next == length code) (sym go.rest ∙ ap (λ b. runs_on ops code b m n) z)
 
-  -- the stack at the end
-  pub stands : (ys : List W) (why : Option Refusal) → ys ≡ xs → ran ops code from base top budget ≡ ended (state_of xs base now n) why → ys ≡ take base from ++ left (ran ops code from base top budget)
-  stands ys why same e = same ∙ laid from xs base now.height go.above go.within go.below ∙ ap (λ w. take base from ++ left w) (sym e)
+  module _ (before : m.next ≡ m.end → ⊥) where
+    inside : m.next ≡ length code → ⊥
+    inside e = before (e ∙ sym go.end)
 
-  module _ (before : now.place ≡ end → ⊥) where
-    inside : now.place < length code
-    inside = omega (arith, go.on, before, is)
+    module _ (some : n < budget) (to : Processor W) where
+      turn : whole ≡ goes (state_at m.next m n) (step ops m.end (fetch code) (state_at m.next m n)) (λ u. runs ops (length code) (fetch code) (budget - (n + 1)) u)
+      turn =
+          let z : budget - n ≡ suc (budget - (n + 1)) = omega arith in
+          sym go.rest ∙ ap (λ b. runs ops (length code) (fetch code) b (state_at m.next m n)) z
+          ∙ more ops (length code) (fetch code) (state_at m.next m n) (budget - (n + 1)) inside
+          ∙ ap (λ e. goes (state_at m.next m n) (step ops e (fetch code) (state_at m.next m n)) (λ u. runs ops (length code) (fetch code) (budget - (n + 1)) u)) (sym go.end)
 
-    pub spends : n ≡ budget → ran ops code from base top budget ≡ ended (state_of xs base now n) (Some (BudgetSpent now.place))
-    spends e = spent ops (length code) (fetch code) (state_of xs base now n) inside _ (budget - n) go.rest (omega arith)
+      turned : (r : Result (Unit {0}) Refusal) → Stepped (step ops m.end (fetch code)) m.next m to r → whole ≡ goes (state_at m.next m n) (led r (state_at to.next to (n + 1))) (λ u. runs ops (length code) (fetch code) (budget - (n + 1)) u)
+      turned r s = turn ∙ ap (λ r. goes (state_at m.next m n) r (λ u. runs ops (length code) (fetch code) (budget - (n + 1)) u)) (s.does n)
 
-    module _ (some : n ≡ budget → ⊥) (code' : List Word) (same : code' ≡ code) where
-      more : 0 < budget - n
-      more = omega (arith, go.afford, some)
-
-      moved : (r : Result (State W) Refusal) → step ops end (fetch code') (state_of xs base now n) ≡ r → step ops (length code) (fetch code) (state_of xs base now n) ≡ r
-      moved r e = subst (λ k. step ops k (fetch code) (state_of xs base now n) ≡ r) is (subst (λ ws. step ops end (fetch ws) (state_of xs base now n) ≡ r) same e)
-
-      pub refuses : (why : Refusal) → step ops end (fetch code') (state_of xs base now n) ≡ Err why → ran ops code from base top budget ≡ ended (state_of xs base now n) (Some why)
-      refuses why e = refused ops (length code) (fetch code) (state_of xs base now n) inside _ (budget - n) go.rest more why (moved (Err why) e)
-
-      pub goes_on : (ys : List W) (to : Registers W) → Moved (step ops end (fetch code')) end base xs now ys to → Going ops code from base top budget ys to (n + 1)
-      goes_on ys to m =
-          let z : budget - n - 1 ≡ budget - (n + 1) = omega arith in
-          record {
-            afford = omega (arith, go.afford, some);
-            on = omega (arith, m.on, is);
-            above = m.above;
-            within = m.within;
-            below = m.below ∙ go.below;
-            rest = subst (λ k. runs ops (length code) (fetch code) k (state_of ys base to (n + 1)) ≡ ran ops code from base top budget) z
-                (turned ops (length code) (fetch code) (state_of xs base now n) inside _ (budget - n) go.rest more _ (moved _ (m.does n)));
-          }
+      -- a step goes on, or ends the run
+      pub after : (r : Result (Unit {0}) Refusal) → Stepped (step ops m.end (fetch code)) m.next m to r →
+          MatchResult r (λ _. Going ops code budget whole to (n + 1)) (λ why. (whole ≡ ended (state_at m.next m n) (Some why)) × (to.words.now ≡ left whole))
+      after (Ok u) s = record { end = s.end ∙ go.end; rest = sym (turned (Ok u) s) }
+      after (Err why) s = (turned (Err why) s, s.stays ∙ leaves m m.next n (Some why) whole (turned (Err why) s))

@@ -5,8 +5,8 @@ use Rattle.bytecode.specs.declared.instruction.Word.{Word}
 use Rattle.bytecode.specs.declared.instruction.Instruction.{Instruction}
 use Rattle.refusal.specs.declared.Refusal.{Refusal}
 use Rattle.refusal.specs.declared.Refusal.TheVariants.{StackTooShort, BudgetSpent}
-use Rattle.machine.specs.declared.registers.Finished.{Finished}
-use Rattle.machine.specs.declared.registers.Halt.{Halt}
+use Rattle.machine.specs.declared.outcome.Finished.{Finished}
+use Rattle.machine.specs.declared.outcome.Halt.{Halt}
 use Rattle.machine.specs.Steps.{State, state, place, fetch, step}
 
 -- a run ended in this state: at the end of the code, or by a refusal

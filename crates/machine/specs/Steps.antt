@@ -9,8 +9,6 @@ use Rattle.bytecode.specs.declared.instruction.Instruction.{Instruction}
 use Rattle.bytecode.specs.declared.instruction.Instruction.TheVariants.{Push, Addi, Eqi, Ori, Consti, Pop, Acc, Popi, Branch, Branchif, Assign, Multi, Leqi}
 use Rattle.refusal.specs.declared.Refusal.{Refusal}
 use Rattle.refusal.specs.declared.Refusal.TheVariants.{BadWord, StackEmpty, StackFull, PlaceOutside, Overflow}
-use Rattle.machine.specs.declared.registers.Operation.{Operation}
-use Rattle.machine.specs.declared.registers.Operation.TheVariants.{Sum, Product, Equal, AtMost, Either, Top}
 
 -- the place, the accumulator, the words above the base with the top first, the unused words above the top with the lowest
 -- first, and how many steps were made
@@ -20,14 +18,9 @@ pub data State (W : Type 0) : Type 0 where
 abbrev pub place : {W : Type 0} → State W → ℕ
 place (state p a st free n) = p
 
--- The new accumulator, where `x` is the word on top of the stack and `a` the accumulator; none where it overflows.
-abbrev pub applied : {W : Type 0} → Ops W → Operation → W → W → Option W
-applied ops Sum x a = ops.plus x a
-applied ops Product x a = ops.times x a
-applied ops Equal x a = Some (truth ops (ops.same x a))
-applied ops AtMost x a = Some (truth ops (ops.at_most x a))
-applied ops Either x a = Some (cond (ops.same x (naught ops) && ops.same a (naught ops)) (naught ops) (unit ops))
-applied ops Top x a = Some x
+-- the word for 0 if both words are it, else the word for 1
+abbrev pub either : {W : Type 0} → Ops W → W → W → W
+either ops x a = cond (ops.same x (naught ops) && ops.same a (naught ops)) (naught ops) (unit ops)
 
 -- In each of these, q is the next place. A word that is taken off stays where it was, as the lowest unused one.
 abbrev pub pushed : {W : Type 0} → ℕ → State W → Result (State W) Refusal
@@ -38,9 +31,10 @@ abbrev pub landed : {W : Type 0} → ℕ → Option W → ℕ → List W → Lis
 landed q None p st free n = Err (Overflow p)
 landed q (Some v) p st free n = Ok (state q v st free (n + 1))
 
-abbrev pub merged : {W : Type 0} → Ops W → Operation → ℕ → State W → Result (State W) Refusal
-merged ops o q (state p a [] free n) = Err (StackEmpty p)
-merged ops o q (state p a (x ∷ st) free n) = landed q (applied ops o x a) p st (x ∷ free) n
+-- f makes the new accumulator of the word on top of the stack and the old accumulator, or none where it overflows
+abbrev pub merged : {W : Type 0} → (W → W → Option W) → ℕ → State W → Result (State W) Refusal
+merged f q (state p a [] free n) = Err (StackEmpty p)
+merged f q (state p a (x ∷ st) free n) = landed q (f x a) p st (x ∷ free) n
 
 abbrev pub became : {W : Type 0} → W → ℕ → State W → Result (State W) Refusal
 became v q (state p a st free n) = Ok (state q v st free (n + 1))
@@ -87,18 +81,18 @@ branched_if ops end k q (state p a st free n) = cond (ops.same a (naught ops)) (
 -- one instruction, in code of `end` words
 abbrev pub performed : {W : Type 0} → Ops W → ℕ → Instruction → ℕ → State W → Result (State W) Refusal
 performed ops end Push q = pushed q
-performed ops end Addi q = merged ops Sum q
-performed ops end Eqi q = merged ops Equal q
-performed ops end Ori q = merged ops Either q
+performed ops end Addi q = merged ops.plus q
+performed ops end Eqi q = merged (λ x a. Some (truth ops (ops.same x a))) q
+performed ops end Ori q = merged (λ x a. Some (either ops x a)) q
 performed ops end (Consti k) q = became (ops.number k) q
-performed ops end Pop q = merged ops Top q
+performed ops end Pop q = merged (λ x a. Some x) q
 performed ops end (Acc k) q = peeked k q
 performed ops end (Popi k) q = dropped k q
 performed ops end (Branch k) q = branched end k
 performed ops end (Branchif k) q = branched_if ops end k q
 performed ops end (Assign k) q = assigned k q
-performed ops end Multi q = merged ops Product q
-performed ops end Leqi q = merged ops AtMost q
+performed ops end Multi q = merged ops.times q
+performed ops end Leqi q = merged (λ x a. Some (truth ops (ops.at_most x a))) q
 
 -- the instruction at a place of the code, with the place after it
 abbrev pub read_as : Option Word → Option Instruction

@@ -2,11 +2,10 @@
 
 #![tactic(auto)]
 
-mod branches;
-mod kinds;
-mod registers;
+mod outcome;
+mod processor;
 mod running;
 mod step;
 
-pub use registers::{Finished, Halt};
+pub use outcome::{Finished, Halt};
 pub use running::run;

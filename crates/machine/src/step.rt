@@ -1,77 +1,96 @@
 //! One step of the machine.
 
-ghost use Rattle.std.specs.Prelude.{◌≡◌, ◌<◌, ◌≤◌, length};
-ghost use Rattle.std.specs.List.{slice_get};
-ghost use Rattle.machine.specs.Slices.{Ready, Did};
-ghost use Rattle.machine.specs.Steps.{performed, read_as, fetch, step as step_of};
+ghost use Rattle.std.specs.Prelude.{◌≡◌, ◌<◌};
+ghost use Rattle.bytecode.specs.Words.{plus as argument};
+ghost use Rattle.arithmetic.specs.Words.{truth as truth_of, naught};
+ghost use Rattle.machine.specs.Processors.{Did, Stepped};
+ghost use Rattle.machine.specs.Steps.{either as either_of, branched_if, performed, fetch, step as step_of};
 
-use crate::branches::{branch, branch_if, load};
-use crate::kinds::{assign, discard, merge, peek, push};
-use crate::registers::{Operation, Registers, Site};
+use crate::processor::Processor;
 use arithmetic::Arithmetic;
-use bytecode::Instruction;
+use bytecode::{Argument, Instruction};
 use memory::CodeMemory;
 use refusal::Refusal;
 
-// One instruction.
+// The word for a number from 0 up.
+fn small<A: Arithmetic>(size: u8) -> A::Word
+    ensures { result ≡ A.Arithmetic.ops.number (argument size) }
+{
+    A::number(Argument::plus(size))
+}
+
+/// The word for 0.
+pub(crate) fn zero<A: Arithmetic>() -> A::Word
+    ensures { result ≡ naught A.Arithmetic.ops }
+{
+    small::<A>(0)
+}
+
+// The word for 1 if so, else the word for 0.
+fn truth<A: Arithmetic>(so: bool) -> A::Word
+    ensures { result ≡ truth_of A.Arithmetic.ops so }
+{
+    if so { small::<A>(1) } else { zero::<A>() }
+}
+
+// The word for 0 if both words are it, else the word for 1.
+fn either<A: Arithmetic>(top: A::Word, word: A::Word) -> A::Word
+    ensures { result ≡ either_of A.Arithmetic.ops top word }
+{
+    let neither = A::same(top, zero::<A>()) && A::same(word, zero::<A>());
+    truth::<A>(!neither)
+}
+
+// Goes on at its own place plus `k` if the accumulator is not the word for 0.
+fn branch_if<A: Arithmetic>(processor: &mut Processor<A::Word>, k: Argument) -> Result<(), Refusal>
+    ensures { Did (branched_if A.Arithmetic.ops processor.old.end k processor.old.next) processor.old processor.new result }
+{
+    if A::same(processor.word, zero::<A>()) {
+        Ok(())
+    } else {
+        processor.branch(k)
+    }
+}
+
+// One instruction. A closure calls `plus` and `times`, since neither is proved where it is passed by name.
 fn perform<A: Arithmetic>(
+    processor: &mut Processor<A::Word>,
     instruction: Instruction,
-    site: Site,
-    stack: &mut [A::Word],
-    registers: Registers<A::Word>,
-) -> Result<Registers<A::Word>, Refusal>
-    requires { Ready site stack.old registers }
-    ensures { Did (performed A.Arithmetic.ops site.end instruction site.next) site.end site.base stack.old registers stack.new result }
+) -> Result<(), Refusal>
+    ensures { Did (performed A.Arithmetic.ops processor.old.end instruction processor.old.next) processor.old processor.new result }
 {
     match instruction {
-        Instruction::Push => push(site, stack, registers),
-        Instruction::Addi => merge::<A>(Operation::Sum, site, stack, registers),
-        Instruction::Eqi => merge::<A>(Operation::Equal, site, stack, registers),
-        Instruction::Ori => merge::<A>(Operation::Either, site, stack, registers),
-        Instruction::Consti(k) => load(A::number(k), site, registers),
-        Instruction::Pop => merge::<A>(Operation::Top, site, stack, registers),
-        Instruction::Acc(k) => peek(k, site, stack, registers),
-        Instruction::Popi(k) => discard(k, site, stack, registers),
-        Instruction::Branch(k) => branch(k, site, registers),
-        Instruction::Branchif(k) => branch_if::<A>(k, site, registers),
-        Instruction::Assign(k) => assign(k, site, stack, registers),
-        Instruction::Multi => merge::<A>(Operation::Product, site, stack, registers),
-        Instruction::Leqi => merge::<A>(Operation::AtMost, site, stack, registers),
+        Instruction::Push => processor.push(),
+        Instruction::Addi => processor.merge(|top, word| A::plus(top, word)),
+        Instruction::Eqi => processor.merge(|top, word| Some(truth::<A>(A::same(top, word)))),
+        Instruction::Ori => processor.merge(|top, word| Some(either::<A>(top, word))),
+        Instruction::Consti(k) => processor.load(A::number(k)),
+        Instruction::Pop => processor.merge(|top, _| Some(top)),
+        Instruction::Acc(k) => processor.peek(k),
+        Instruction::Popi(k) => processor.discard(k),
+        Instruction::Branch(k) => processor.branch(k),
+        Instruction::Branchif(k) => branch_if::<A>(processor, k),
+        Instruction::Assign(k) => processor.assign(k),
+        Instruction::Multi => processor.merge(|top, word| A::times(top, word)),
+        Instruction::Leqi => processor.merge(|top, word| Some(truth::<A>(A::at_most(top, word)))),
     }
 }
 
-// The instruction at a place of the code.
-fn read<M: CodeMemory>(memory: &mut M, place: usize) -> Option<Instruction>
-    ensures answer { result ≡ read_as (slice_get (M.CodeMemory.listed memory.old) place) }
-    ensures room { M.CodeMemory.room memory.new ≡ M.CodeMemory.room memory.old }
-    ensures code { M.CodeMemory.listed memory.new ≡ M.CodeMemory.listed memory.old }
-{
-    memory.fetch(place)?.instruction()
-}
-
-/// One step, in code of `end` words.
+/// One step, from where the processor goes on.
 pub(crate) fn step<M: CodeMemory, A: Arithmetic>(
     memory: &mut M,
-    base: usize,
-    end: usize,
-    stack: &mut [A::Word],
-    registers: Registers<A::Word>,
-) -> Result<Registers<A::Word>, Refusal>
-    requires { (registers.place < end) × (base ≤ registers.height) × (registers.height ≤ length stack.old) }
-    ensures did { Did (step_of A.Arithmetic.ops end (fetch (M.CodeMemory.listed memory.old))) end base stack.old registers stack.new result }
+    processor: &mut Processor<A::Word>,
+) -> Result<(), Refusal>
+    requires { processor.old.next < processor.old.end }
+    ensures did { Stepped (step_of A.Arithmetic.ops processor.old.end (fetch (M.CodeMemory.listed memory.old))) processor.old.next processor.old processor.new result }
     ensures room { M.CodeMemory.room memory.new ≡ M.CodeMemory.room memory.old }
     ensures code { M.CodeMemory.listed memory.new ≡ M.CodeMemory.listed memory.old }
 {
-    let place = registers.place;
-    match read(memory, place) {
-        Some(instruction) => {
-            let site = Site {
-                base,
-                next: place + 1,
-                end,
-            };
-            perform::<A>(instruction, site, stack, registers)
-        }
-        None => Err(Refusal::BadWord(place)),
-    }
+    processor.place = processor.next;
+    processor.next += 1;
+    let instruction = memory
+        .fetch(processor.place)
+        .and_then(|word| word.instruction())
+        .ok_or(Refusal::BadWord(processor.place))?;
+    perform::<A>(processor, instruction)
 }

@@ -10,14 +10,6 @@ const PUSH: Word = Word {
     value: 0,
 };
 
-fn word(opcode: u8, sign: u8, value: u8) -> Word {
-    Word {
-        opcode,
-        sign,
-        value,
-    }
-}
-
 fn fill<M: CodeMemory>(memory: &mut M, words: &[Word]) {
     for word in words {
         let _ = memory.append(*word);
@@ -50,26 +42,26 @@ fn halted(refusal: Refusal, steps: usize) -> Result<Finished<u16>, Halt> {
 #[test]
 fn performs_every_instruction(rt: HostRuntime) {
     let words = [
-        word(6, 0, 1),
+        Word::from([6, 0, 1]),
         PUSH,
-        word(4, 1, 2),
-        word(11, 0, 0),
+        Word::from([4, 1, 2]),
+        Word::from([11, 0, 0]),
         PUSH,
-        word(4, 0, 20),
-        word(1, 0, 0),
-        word(10, 0, 0),
-        word(12, 0, 0),
+        Word::from([4, 0, 20]),
+        Word::from([1, 0, 0]),
+        Word::from([10, 0, 0]),
+        Word::from([12, 0, 0]),
         PUSH,
-        word(4, 0, 0),
-        word(3, 0, 0),
-        word(9, 0, 2),
-        word(255, 0, 0),
+        Word::from([4, 0, 0]),
+        Word::from([3, 0, 0]),
+        Word::from([9, 0, 2]),
+        Word::from([255, 0, 0]),
         PUSH,
-        word(2, 0, 0),
-        word(8, 0, 1),
-        word(5, 0, 0),
+        Word::from([2, 0, 0]),
+        Word::from([8, 0, 1]),
+        Word::from([5, 0, 0]),
         PUSH,
-        word(7, 0, 1),
+        Word::from([7, 0, 1]),
     ];
     let mut stack = [9, 7, 5, 0, 0, 0];
     let answer = outcome::<Ranged>(&words, &mut stack, 2, 19);
@@ -81,28 +73,28 @@ fn performs_every_instruction(rt: HostRuntime) {
 #[test]
 fn refuses(rt: HostRuntime) {
     assert_eq!(rt;
-        refused(&[PUSH, word(4, 1, 0)], 9),
+        refused(&[PUSH, Word::from([4, 1, 0])], 9),
         halted(Refusal::BadWord(1), 1)
     );
     assert_eq!(rt;
-        refused(&[word(7, 0, 3)], 9),
+        refused(&[Word::from([7, 0, 3])], 9),
         halted(Refusal::StackEmpty(0), 0)
     );
     assert_eq!(rt; refused(&[PUSH, PUSH], 9), halted(Refusal::StackFull(1), 1));
     assert_eq!(rt;
-        refused(&[PUSH, word(8, 1, 2)], 9),
+        refused(&[PUSH, Word::from([8, 1, 2])], 9),
         halted(Refusal::PlaceOutside(1), 1)
     );
     assert_eq!(rt;
-        refused(&[word(8, 0, 2)], 9),
+        refused(&[Word::from([8, 0, 2])], 9),
         halted(Refusal::PlaceOutside(0), 0)
     );
     assert_eq!(rt;
-        refused(&[word(8, 0, 0)], 9),
+        refused(&[Word::from([8, 0, 0])], 9),
         halted(Refusal::BudgetSpent(0), 9)
     );
     assert_eq!(rt;
-        refused(&[word(255, 0, 0)], 0),
+        refused(&[Word::from([255, 0, 0])], 0),
         halted(Refusal::BudgetSpent(0), 0)
     );
 }
@@ -120,10 +112,10 @@ fn refuses_a_short_stack(rt: HostRuntime) {
 // 65,535 + 1 is 0 in round words; 46,340 squared fits ranged words, and 46,341 squared does not.
 #[test]
 fn edges(rt: HostRuntime) {
-    let one_more = [word(4, 0, 1), word(1, 0, 0)];
+    let one_more = [Word::from([4, 0, 1]), Word::from([1, 0, 0])];
     let sum = outcome::<Round>(&one_more, &mut [9, 65535], 1, 9);
     assert_eq!(rt; sum, Ok(Finished { word: 0, steps: 2 }));
-    let squared = [word(6, 0, 0), word(11, 0, 0)];
+    let squared = [Word::from([6, 0, 0]), Word::from([11, 0, 0])];
     let fits = outcome::<Ranged>(&squared, &mut [9, 46340], 1, 9);
     let product = 2147395600;
     assert_eq!(rt;

@@ -8,8 +8,8 @@ use Rattle.language.specs.Code.{tall}
 use Rattle.language.specs.Tree.{Tree}
 use Rattle.language.specs.declared.operator.ValueType.{ValueType}
 use Rattle.machine.specs.Runs.{Ended, answer, left, held, ran, answered, stack_after}
-use Rattle.machine.specs.declared.registers.Finished.{Finished}
-use Rattle.machine.specs.declared.registers.Halt.{Halt}
+use Rattle.machine.specs.declared.outcome.Finished.{Finished}
+use Rattle.machine.specs.declared.outcome.Halt.{Halt}
 use Rattle.machine.proofs.Held.{length-held}
 use Rattle.refusal.specs.declared.Refusal.TheVariants.{Overflow}
 use Rattle.simulation.specs.Law.{Lawful, words_of, Closes}

@@ -7,8 +7,8 @@ use Rattle.language.specs.Tree.{Tree, size}
 use Rattle.language.specs.Typing.{type_of}
 use Rattle.language.specs.declared.operator.ValueType.{ValueType}
 use Rattle.machine.specs.Runs.{held, answered, stack_after}
-use Rattle.machine.specs.declared.registers.Finished.{Finished}
-use Rattle.machine.specs.declared.registers.Halt.{Halt}
+use Rattle.machine.specs.declared.outcome.Finished.{Finished}
+use Rattle.machine.specs.declared.outcome.Halt.{Halt}
 use Rattle.refusal.specs.declared.Refusal.TheVariants.{Overflow}
 use Rattle.simulation.specs.Law.{Lawful, Fits, words_of}
 
