@@ -1,6 +1,6 @@
 //! The end of frames: their entries go into the table, as far as it has room.
 
-ghost use Rattle.std.specs.Prelude.{◌≡◌, ◌+◌, ◌^◌, ◌<◌, ◌≤◌, false, drop, if◌then◌else◌, Some};
+ghost use Rattle.std.specs.Prelude.{◌≡◌, ◌+◌, ◌^◌, ◌<◌, ◌≤◌, false, drop, length, if◌then◌else◌, Some};
 ghost use Rattle.language.specs.Fold.{state, ended, endings};
 ghost use Rattle.language.specs.Frames.{is_body, joint, leaving};
 ghost use Rattle.reader.specs.Lets.{is_value};
@@ -19,9 +19,9 @@ use language::{Due, Entry, Frame, Mark};
 
 // Takes the name of a let that ends out of scope.
 fn leave(scope: &mut Names<'_>, mark: Mark)
-    requires { (if is_body mark then 1 else 0) ≤ scope.old.count }
+    requires { (if is_body mark then 1 else 0) ≤ length (held scope.old) }
     ensures held { held scope.new ≡ leaving mark (held scope.old) }
-    ensures count { scope.new.count + (if is_body mark then 1 else 0) ≡ scope.old.count }
+    ensures count { length (held scope.new) + (if is_body mark then 1 else 0) ≡ length (held scope.old) }
 {
     if is_body(mark) {
         scope.pop();
@@ -48,7 +48,7 @@ impl<'a> Parser<'a> {
         requires no_value { is_value frame.mark ≡ false }
         requires due { self.old.due ≡ Due.Operator }
         ensures view { view self.new ≡ state (drop 1 (frames_of self.old.stack)) (held self.old.pending) (leaving frame.mark (held self.old.scope)) Due.Operator self.old.count }
-        ensures used { self.new.stack.used + 1 ≡ self.old.stack.used }
+        ensures used { length (frames_of self.new.stack) + 1 ≡ length (frames_of self.old.stack) }
         ensures count { self.new.count ≡ self.old.count }
     {
         leave(&mut self.scope, frame.mark);
@@ -57,11 +57,11 @@ impl<'a> Parser<'a> {
 
     /// Ends each frame on top that binds at the level.
     pub(crate) fn close(&mut self, table: &mut [Entry], least: usize)
-        requires room { self.old.count + self.old.stack.used + 1 < 2 ^ 64 }
+        requires room { self.old.count + length (frames_of self.old.stack) + 1 < 2 ^ 64 }
         requires due { self.old.due ≡ Due.Operator }
         ensures view { view self.new ≡ ended least (view self.old) }
         ensures table { table.new ≡ put table.old self.old.count (endings least (view self.old)) }
-        ensures room { self.new.count + self.new.stack.used ≡ self.old.count + self.old.stack.used }
+        ensures room { self.new.count + length (frames_of self.new.stack) ≡ self.old.count + length (frames_of self.old.stack) }
     {
         while let Some(frame) = self.stack.top() {
             if !ends_at(least, frame.mark) {

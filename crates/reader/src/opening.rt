@@ -1,6 +1,6 @@
 //! The parser where an operand is due.
 
-ghost use Rattle.std.specs.Prelude.{◌≡◌, ◌+◌, ◌^◌, ◌<◌, ◌≤◌, true, false, [], ◌∷◌, Ok, slice_set};
+ghost use Rattle.std.specs.Prelude.{◌≡◌, ◌+◌, ◌^◌, ◌<◌, ◌≤◌, true, false, [], ◌∷◌, Ok, length, slice_set};
 ghost use Rattle.language.specs.Fold.{fresh, leaf, opened, enter, enter_whole, opening_of, begun};
 ghost use Rattle.language.specs.Frames.{is_body, frame};
 ghost use Rattle.reader.specs.Lets.{is_value, due_fits, Opens};
@@ -27,15 +27,14 @@ pub(crate) fn put_entry(table: &mut [Entry], at: usize, entry: Entry)
 }
 
 impl<'a> Parser<'a> {
-    /// Nothing is read yet. The text only fills the places of names.
-    pub(crate) fn new(text: &'a [u8]) -> Parser<'a>
-        ensures view { view result ≡ fresh }
-        ensures room { result.count + result.stack.used ≡ 0 }
+    /// Nothing is read yet.
+    pub(crate) fn new() -> Parser<'a>
+        ensures { view result ≡ fresh }
     {
         Parser {
             stack: Stack::new(),
-            pending: Names::new(text),
-            scope: Names::new(text),
+            pending: Names::new(),
+            scope: Names::new(),
             due: Due::Operand,
             count: 0,
         }
@@ -48,7 +47,7 @@ impl<'a> Parser<'a> {
         requires no_body { is_body mark ≡ false }
         requires fits { due_fits due (frame mark 0 0 0 ∷ []) ≡ true }
         ensures view { view self.new ≡ opened mark place whole due (view self.old) }
-        ensures room { self.new.count + self.new.stack.used ≡ self.old.count + self.old.stack.used + 1 }
+        ensures room { self.new.count + length (frames_of self.new.stack) ≡ self.old.count + length (frames_of self.old.stack) + 1 }
     {
         let first = self.count;
         self.stack.push(Frame {
@@ -64,7 +63,7 @@ impl<'a> Parser<'a> {
     fn enter(&mut self, mark: Mark, place: usize, due: Due) -> Result<(), Refusal>
         requires { Opens mark due }
         ensures step { Moved (enter mark place due (view self.old)) result (view self.new) }
-        ensures room { self.new.count + self.new.stack.used ≤ self.old.count + self.old.stack.used + 1 }
+        ensures room { self.new.count + length (frames_of self.new.stack) ≤ self.old.count + length (frames_of self.old.stack) + 1 }
     {
         if self.stack.depth >= 64 {
             return Err(Refusal::TooDeep(place));
@@ -78,7 +77,7 @@ impl<'a> Parser<'a> {
     fn enter_whole(&mut self, mark: Mark, place: usize, due: Due) -> Result<(), Refusal>
         requires { Opens mark due }
         ensures step { Moved (enter_whole mark place due (view self.old)) result (view self.new) }
-        ensures room { self.new.count + self.new.stack.used ≤ self.old.count + self.old.stack.used + 1 }
+        ensures room { self.new.count + length (frames_of self.new.stack) ≤ self.old.count + length (frames_of self.old.stack) + 1 }
     {
         if self.stack.above() != 0 {
             return Err(Refusal::Unexpected(place));
@@ -88,9 +87,9 @@ impl<'a> Parser<'a> {
 
     // An operand of one entry.
     fn leaf(&mut self, table: &mut [Entry], kind: Kind, number: Argument, place: usize)
-        requires { self.old.count + self.old.stack.used + 1 < 2 ^ 64 }
+        requires { self.old.count + length (frames_of self.old.stack) + 1 < 2 ^ 64 }
         ensures step { Stepped (leaf kind number place (view self.old)) (Ok tt) (view self.new) self.old.count table.old table.new }
-        ensures room { self.new.count + self.new.stack.used ≡ self.old.count + self.old.stack.used + 1 }
+        ensures room { self.new.count + length (frames_of self.new.stack) ≡ self.old.count + length (frames_of self.old.stack) + 1 }
     {
         let count = self.count;
         let entry = Entry {
@@ -106,9 +105,9 @@ impl<'a> Parser<'a> {
 
     /// Takes a token where an operand is due.
     pub(crate) fn begin(&mut self, token: Token<'a>, table: &mut [Entry]) -> Result<(), Refusal>
-        requires { self.old.count + self.old.stack.used + 1 < 2 ^ 64 }
+        requires { self.old.count + length (frames_of self.old.stack) + 1 < 2 ^ 64 }
         ensures step { Stepped (begun (opening_of token.entry.kind) (view self.old) token.entry.kind token.entry.place token.entry.text.now) result (view self.new) self.old.count table.old table.new }
-        ensures room { self.new.count + self.new.stack.used ≤ self.old.count + self.old.stack.used + 1 }
+        ensures room { self.new.count + length (frames_of self.new.stack) ≤ self.old.count + length (frames_of self.old.stack) + 1 }
     {
         let place = token.place;
         match opening(token.kind) {

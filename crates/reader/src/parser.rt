@@ -1,8 +1,9 @@
 //! What is known of a rule while its tokens come in.
 
-ghost use Rattle.std.specs.Prelude.{◌≡◌, true};
+ghost use Rattle.std.specs.Prelude.{◌≡◌, true, length};
 ghost use Rattle.reader.specs.Lets.{values, bodies, due_fits};
 ghost use Rattle.reader.specs.Opened.{frames_of};
+ghost use Rattle.reader.specs.Scopes.{held};
 
 use crate::names::Names;
 use crate::stack::Stack;
@@ -17,7 +18,7 @@ pub struct Parser<'a> {
     pub scope: Names<'a>,
     pub due: Due,
     pub count: usize,
-    ghost valued: { pending.count ≡ values (frames_of stack) },
-    ghost bodied: { scope.count ≡ bodies (frames_of stack) },
+    ghost valued: { length (held pending) ≡ values (frames_of stack) },
+    ghost bodied: { length (held scope) ≡ bodies (frames_of stack) },
     ghost expected: { due_fits due (frames_of stack) ≡ true },
 }

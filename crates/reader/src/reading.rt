@@ -31,7 +31,7 @@ fn write(text: &[u8], table: &mut [Entry]) -> Result<usize, Refusal>
     ensures { paired result table.new ≡ laid table.old 0 (parse text.now) }
 {
     let mut lexer = Lexer::new(text);
-    let mut parser = Parser::new(text);
+    let mut parser = Parser::new();
     loop {
         let token = lexer.next();
         parser.step(token, table)?;

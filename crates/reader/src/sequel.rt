@@ -1,7 +1,8 @@
 //! The parser where an operand has ended.
 
-ghost use Rattle.std.specs.Prelude.{◌≡◌, ◌+◌, ◌^◌, ◌<◌, ◌≤◌};
+ghost use Rattle.std.specs.Prelude.{◌≡◌, ◌+◌, ◌^◌, ◌<◌, ◌≤◌, length};
 ghost use Rattle.language.specs.Fold.{ends, ended, endings, joined, turned as turned_by, turn_of, in_of, brought, shut, finished, sequel_of, gone_on};
+ghost use Rattle.reader.specs.Opened.{frames_of};
 ghost use Rattle.reader.specs.Steps.{view, put, Stepped};
 
 use crate::kinds::{is_paren, is_value, refused, sequel, turned};
@@ -24,10 +25,10 @@ fn least_of(operator: Operator) -> usize
 impl<'a> Parser<'a> {
     // An operator between two operands.
     fn join(&mut self, table: &mut [Entry], operator: Operator, place: usize) -> Result<(), Refusal>
-        requires room { self.old.count + self.old.stack.used + 1 < 2 ^ 64 }
+        requires room { self.old.count + length (frames_of self.old.stack) + 1 < 2 ^ 64 }
         requires due { self.old.due ≡ Due.Operator }
         ensures step { Stepped (joined operator place (ended (ends operator) (view self.old)) (endings (ends operator) (view self.old))) result (view self.new) self.old.count table.old table.new }
-        ensures room { self.new.count + self.new.stack.used ≤ self.old.count + self.old.stack.used + 1 }
+        ensures room { self.new.count + length (frames_of self.new.stack) ≤ self.old.count + length (frames_of self.old.stack) + 1 }
     {
         self.close(table, least_of(operator));
         if self.stack.above() == operator.row().level {
@@ -40,10 +41,10 @@ impl<'a> Parser<'a> {
 
     // The next part of an if.
     fn turn(&mut self, table: &mut [Entry], turn: Turn, place: usize) -> Result<(), Refusal>
-        requires room { self.old.count + self.old.stack.used + 1 < 2 ^ 64 }
+        requires room { self.old.count + length (frames_of self.old.stack) + 1 < 2 ^ 64 }
         requires due { self.old.due ≡ Due.Operator }
         ensures step { Stepped (turned_by (turn_of turn) place (ended 0 (view self.old)) (endings 0 (view self.old))) result (view self.new) self.old.count table.old table.new }
-        ensures room { self.new.count + self.new.stack.used ≤ self.old.count + self.old.stack.used + 1 }
+        ensures room { self.new.count + length (frames_of self.new.stack) ≤ self.old.count + length (frames_of self.old.stack) + 1 }
     {
         self.close(table, 0);
         let Some(frame) = self.stack.top() else {
@@ -60,10 +61,10 @@ impl<'a> Parser<'a> {
 
     // The second expression of a let, in which its name is in scope.
     fn bring(&mut self, table: &mut [Entry], place: usize) -> Result<(), Refusal>
-        requires room { self.old.count + self.old.stack.used + 1 < 2 ^ 64 }
+        requires room { self.old.count + length (frames_of self.old.stack) + 1 < 2 ^ 64 }
         requires due { self.old.due ≡ Due.Operator }
         ensures step { Stepped (brought (turned_by in_of place (ended 0 (view self.old)) (endings 0 (view self.old)))) result (view self.new) self.old.count table.old table.new }
-        ensures room { self.new.count + self.new.stack.used ≤ self.old.count + self.old.stack.used + 1 }
+        ensures room { self.new.count + length (frames_of self.new.stack) ≤ self.old.count + length (frames_of self.old.stack) + 1 }
     {
         self.close(table, 0);
         let Some(frame) = self.stack.top() else {
@@ -81,10 +82,10 @@ impl<'a> Parser<'a> {
 
     // The end of a parenthesis.
     fn shut(&mut self, table: &mut [Entry], place: usize) -> Result<(), Refusal>
-        requires room { self.old.count + self.old.stack.used + 1 < 2 ^ 64 }
+        requires room { self.old.count + length (frames_of self.old.stack) + 1 < 2 ^ 64 }
         requires due { self.old.due ≡ Due.Operator }
         ensures step { Stepped (shut place (ended 0 (view self.old)) (endings 0 (view self.old))) result (view self.new) self.old.count table.old table.new }
-        ensures room { self.new.count + self.new.stack.used ≤ self.old.count + self.old.stack.used + 1 }
+        ensures room { self.new.count + length (frames_of self.new.stack) ≤ self.old.count + length (frames_of self.old.stack) + 1 }
     {
         self.close(table, 0);
         let Some(frame) = self.stack.top() else {
@@ -99,10 +100,10 @@ impl<'a> Parser<'a> {
 
     // The end of the text.
     fn finish(&mut self, table: &mut [Entry], place: usize) -> Result<(), Refusal>
-        requires room { self.old.count + self.old.stack.used + 1 < 2 ^ 64 }
+        requires room { self.old.count + length (frames_of self.old.stack) + 1 < 2 ^ 64 }
         requires due { self.old.due ≡ Due.Operator }
         ensures step { Stepped (finished place (ended 0 (view self.old)) (endings 0 (view self.old))) result (view self.new) self.old.count table.old table.new }
-        ensures room { self.new.count + self.new.stack.used ≤ self.old.count + self.old.stack.used + 1 }
+        ensures room { self.new.count + length (frames_of self.new.stack) ≤ self.old.count + length (frames_of self.old.stack) + 1 }
     {
         self.close(table, 0);
         match self.stack.top() {
@@ -113,10 +114,10 @@ impl<'a> Parser<'a> {
 
     /// Takes a token where an operand has ended.
     pub(crate) fn go_on(&mut self, token: Token<'a>, table: &mut [Entry]) -> Result<(), Refusal>
-        requires room { self.old.count + self.old.stack.used + 1 < 2 ^ 64 }
+        requires room { self.old.count + length (frames_of self.old.stack) + 1 < 2 ^ 64 }
         requires due { self.old.due ≡ Due.Operator }
         ensures step { Stepped (gone_on (sequel_of token.entry.kind) (view self.old) token.entry.kind token.entry.place) result (view self.new) self.old.count table.old table.new }
-        ensures room { self.new.count + self.new.stack.used ≤ self.old.count + self.old.stack.used + 1 }
+        ensures room { self.new.count + length (frames_of self.new.stack) ≤ self.old.count + length (frames_of self.old.stack) + 1 }
     {
         let place = token.place;
         match sequel(token.kind) {

@@ -13,10 +13,10 @@ pub loop-init : goal.loop-init
 loop-init c =
     let text = c.args.text.now in
     let at = c.new-lexer.ensures.start in
-    let v = c.new-parser.ensures.view in
-    let room = c.new-parser.ensures.room in (
+    let v = c.new-parser.ensures in
+    let none = ap (λ (s : State). s.count + length s.frames) v in (
       c.new-lexer.ensures.text,
-      omega arith,
+      omega (arith, none),
       (
         length text + 1,
         omega arith,

@@ -1,6 +1,7 @@
-use Rattle.std.proofs.Common.{◌≡◌, ◌+◌}
+use Rattle.std.proofs.Common.{◌≡◌, ◌+◌, length}
 use Rattle.language.specs.Fold.{ended, endings}
 use Rattle.language.specs.declared.frame.Due.TheVariants.{Operator}
+use Rattle.reader.specs.Opened.{frames_of}
 use Rattle.reader.specs.Steps.{view, put}
 use Rattle.reader.proofs.parser.Parser.close.Given as goal
 
@@ -10,7 +11,7 @@ invariant-loop-frame l =
     (l.self.due ≡ Operator)
     × (ended l.least (view l.self) ≡ ended l.least (view l.initial.self))
     × (put l.table l.self.count (endings l.least (view l.self)) ≡ put l.initial.table l.initial.self.count (endings l.least (view l.initial.self)))
-    × (l.self.count + l.self.stack.used ≡ l.initial.self.count + l.initial.self.stack.used)
+    × (l.self.count + length (frames_of l.self.stack) ≡ l.initial.self.count + length (frames_of l.initial.self.stack))
 
 abbrev pub decreases-loop-frame : goal.decreases-loop-frame
-decreases-loop-frame l = l.self.stack.used
+decreases-loop-frame l = length (frames_of l.self.stack)
