@@ -4,7 +4,7 @@ use Rattle.std.proofs.lemmas.List.{append-nil, take-append-drop, take_more_set, 
 use Rattle.std.proofs.lemmas.Bool.{cond-true, cond-false, true≢false, or_left, le-ltb, eqb-false}
 use Rattle.refusal.specs.declared.Refusal.{Refusal}
 use Rattle.refusal.specs.declared.Refusal.TheVariants.{TooManyEntries}
-use Rattle.language.specs.Fold.{State, Step, named, enter, begun, opening_of, is_name, is_equal, ended, endings, ends, turn_to, turn_top, turned, turn_of, in_of, brought, shut_top, is_paren, finish_top, gone_on, sequel_of, duly, feed, feeds, prefixed, followed}
+use Rattle.language.specs.Fold.{State, Step, named, enter, begun_by, begun, opening_of, is_name, is_equal, ended, endings, ends, turn_to, turn_top, turned, turn_of, in_of, brought, shut_top, is_paren, finish_top, gone_on_by, gone_on, sequel_of, duly, feed, feeds, prefixed, followed}
 use Rattle.language.specs.Frames.{above, deep}
 use Rattle.language.specs.Operators.{row_of}
 use Rattle.language.specs.Reading.{is_last, tokens_from, fitted, answer, leaves}
@@ -15,9 +15,9 @@ use Rattle.language.specs.declared.frame.Due.TheVariants.{Operand, Binder, Equal
 use Rattle.language.specs.declared.frame.Frame.{Frame}
 use Rattle.language.specs.declared.frame.Mark.{Mark}
 use Rattle.language.specs.declared.step.Opening.{Opening}
-use Rattle.language.specs.declared.step.Opening.TheVariants.{Leaf, Name, Nested, Whole, Nothing}
+use Rattle.language.specs.declared.step.Opening.TheVariants.{Leaf, Name, Nested, Whole}
 use Rattle.language.specs.declared.step.Sequel.{Sequel}
-use Rattle.language.specs.declared.step.Sequel.TheVariants.{Join, Turn, Bring, Shut, Finish, Nothing as NoSequel}
+use Rattle.language.specs.declared.step.Sequel.TheVariants.{Join, Turn, Bring, Shut, Finish}
 use Rattle.language.specs.declared.token.TokenKind.{TokenKind}
 use Rattle.reader.specs.Outcomes.{laid}
 use Rattle.reader.specs.Steps.{put, Stepped}
@@ -41,12 +41,15 @@ counts_named (Some i) p s = refl
 counts_enter : (m : Mark) (p : ℕ) (d : Due) (s : State) → Counts s.count (enter m p d s)
 counts_enter m p d s = counts_if (ltb (deep s.frames) 64) s.count _ _ (none_added s.count) tt
 
-counts_begun : (o : Opening) (s : State) (k : TokenKind) (p : ℕ) (x : List ℕ) → Counts s.count (begun o s k p x)
-counts_begun (Leaf e n) s k p x = refl
-counts_begun Name s k p x = counts_named _ p s
-counts_begun (Nested m) s k p x = counts_enter m p Operand s
-counts_begun (Whole m d) s k p x = counts_if (eqb (above s.frames) 0) s.count _ _ (counts_enter m p d s) tt
-counts_begun Nothing s k p x = tt
+counts_begun_by : (o : Opening) (s : State) (p : ℕ) (x : List ℕ) → Counts s.count (begun_by o s p x)
+counts_begun_by (Leaf e n) s p x = refl
+counts_begun_by Name s p x = counts_named _ p s
+counts_begun_by (Nested m) s p x = counts_enter m p Operand s
+counts_begun_by (Whole m d) s p x = counts_if (eqb (above s.frames) 0) s.count _ _ (counts_enter m p d s) tt
+
+counts_begun : (o : Option Opening) (s : State) (k : TokenKind) (p : ℕ) (x : List ℕ) → Counts s.count (begun o s k p x)
+counts_begun None s k p x = tt
+counts_begun (Some o) s k p x = counts_begun_by o s p x
 
 counts_turn_to : (o : Option Mark) (p n : ℕ) (u : State) (es : List Entry) → u.count ≡ n + length es → Counts n (turn_to o p u es)
 counts_turn_to None p n u es h = tt
@@ -68,13 +71,16 @@ counts_finish : (p n : ℕ) (fs : List Frame) (u : State) (es : List Entry) → 
 counts_finish p n [] u es h = h
 counts_finish p n (f ∷ fs) u es h = tt
 
-counts_gone_on : (q : Sequel) (s : State) (k : TokenKind) (p : ℕ) → Counts s.count (gone_on q s k p)
-counts_gone_on (Join o) s k p = counts_if (eqb (above (ended (ends o) s).frames) (row_of o).level) s.count _ _ tt refl
-counts_gone_on (Turn w) s k p = counts_turn (turn_of w) p s.count (ended 0 s).frames (ended 0 s) (endings 0 s) refl
-counts_gone_on Bring s k p = counts_brought s.count (turned in_of p (ended 0 s) (endings 0 s)) (counts_turn in_of p s.count (ended 0 s).frames (ended 0 s) (endings 0 s) refl)
-counts_gone_on Shut s k p = counts_shut p s.count (ended 0 s).frames (ended 0 s) (endings 0 s) refl
-counts_gone_on Finish s k p = counts_finish p s.count (ended 0 s).frames (ended 0 s) (endings 0 s) refl
-counts_gone_on NoSequel s k p = tt
+counts_gone_on_by : (q : Sequel) (s : State) (p : ℕ) → Counts s.count (gone_on_by q s p)
+counts_gone_on_by (Join o) s p = counts_if (eqb (above (ended (ends o) s).frames) (row_of o).level) s.count _ _ tt refl
+counts_gone_on_by (Turn w) s p = counts_turn (turn_of w) p s.count (ended 0 s).frames (ended 0 s) (endings 0 s) refl
+counts_gone_on_by Bring s p = counts_brought s.count (turned in_of p (ended 0 s) (endings 0 s)) (counts_turn in_of p s.count (ended 0 s).frames (ended 0 s) (endings 0 s) refl)
+counts_gone_on_by Shut s p = counts_shut p s.count (ended 0 s).frames (ended 0 s) (endings 0 s) refl
+counts_gone_on_by Finish s p = counts_finish p s.count (ended 0 s).frames (ended 0 s) (endings 0 s) refl
+
+counts_gone_on : (q : Option Sequel) (s : State) (k : TokenKind) (p : ℕ) → Counts s.count (gone_on q s k p)
+counts_gone_on None s k p = tt
+counts_gone_on (Some q) s k p = counts_gone_on_by q s p
 
 counts_duly : (d : Due) (s : State) (k : TokenKind) (p : ℕ) (x : List ℕ) → Counts s.count (duly d s k p x)
 counts_duly Operand s k p x = counts_begun (opening_of k) s k p x

@@ -110,7 +110,10 @@ impl<'a> Parser<'a> {
         ensures room { self.new.count + length (frames_of self.new.stack) ≤ self.old.count + length (frames_of self.old.stack) + 1 }
     {
         let place = token.place;
-        match opening(token.kind) {
+        let Some(opening) = opening(token.kind) else {
+            return Err(refused(token.kind, place));
+        };
+        match opening {
             Opening::Leaf(kind, number) => {
                 self.leaf(table, kind, number, place);
                 Ok(())
@@ -124,7 +127,6 @@ impl<'a> Parser<'a> {
             },
             Opening::Nested(mark) => self.enter(mark, place, Due::Operand),
             Opening::Whole(mark, due) => self.enter_whole(mark, place, due),
-            Opening::Nothing => Err(refused(token.kind, place)),
         }
     }
 }

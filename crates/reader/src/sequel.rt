@@ -120,13 +120,15 @@ impl<'a> Parser<'a> {
         ensures room { self.new.count + length (frames_of self.new.stack) ≤ self.old.count + length (frames_of self.old.stack) + 1 }
     {
         let place = token.place;
-        match sequel(token.kind) {
+        let Some(sequel) = sequel(token.kind) else {
+            return Err(refused(token.kind, place));
+        };
+        match sequel {
             Sequel::Join(operator) => self.join(table, operator, place),
             Sequel::Turn(word) => self.turn(table, word, place),
             Sequel::Bring => self.bring(table, place),
             Sequel::Shut => self.shut(table, place),
             Sequel::Finish => self.finish(table, place),
-            Sequel::Nothing => Err(refused(token.kind, place)),
         }
     }
 }
