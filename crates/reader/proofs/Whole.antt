@@ -1,15 +1,19 @@
 -- Reading token by token gives what the fold over all tokens gives.
-use Rattle.std.proofs.Common.{◌≡◌, ℕ, zero, suc, ◌+◌, ◌<◌, ◌≤◌, min, Bool, true, false, cond, ◌&&◌, ◌||◌, eqb, ltb, leb, List, [], ◌∷◌, ◌++◌, length, get_or, take, drop, set, Some, None, Ok, Err, Option, Result, sym, refl, ap, ◌∙◌, subst, append_assoc, arith, length-append}
+use Rattle.std.proofs.Common.{◌≡◌, ℕ, zero, suc, ◌+◌, ◌<◌, ◌≤◌, Bool, true, false, cond, ◌&&◌, ◌||◌, eqb, ltb, leb, List, [], ◌∷◌, ◌++◌, length, get_or, take, drop, set, replicate, IfOk, is_err, Some, None, Ok, Err, Option, Result, sym, refl, ap, ◌∙◌, subst, append_assoc, arith, length-append}
 use Rattle.std.proofs.lemmas.List.{append-nil, take-append-drop, take_more_set, drop-set-lt, length-set}
-use Rattle.std.proofs.lemmas.Bool.{cond-true, cond-false, true≢false, or_left, le-ltb, eqb-false}
+use Rattle.std.proofs.lemmas.Bool.{cond-true, cond-false, true≢false, or_left, eqb-false}
 use Rattle.refusal.specs.declared.Refusal.{Refusal}
-use Rattle.refusal.specs.declared.Refusal.TheVariants.{TooManyEntries}
+use Rattle.bytecode.specs.Words.{plus}
+use Rattle.bytecode.specs.declared.argument.Argument.{Argument}
+use Rattle.bytecode.proofs.Words.{same_argument}
 use Rattle.language.specs.Fold.{State, Step, named, enter, begun_by, begun, opening_of, is_name, is_equal, ended, endings, ends, turn_to, turn_top, turned, turn_of, in_of, brought, shut_top, is_paren, finish_top, gone_on_by, gone_on, sequel_of, duly, feed, feeds, prefixed, followed}
 use Rattle.language.specs.Frames.{above, deep}
 use Rattle.language.specs.Operators.{row_of}
-use Rattle.language.specs.Reading.{is_last, tokens_from, fitted, answer, leaves}
+use Rattle.language.specs.Reading.{is_last, tokens_from, leaves}
+use Rattle.language.specs.Tree.{entry, blank}
 use Rattle.language.specs.Tokens.{Lexeme, lexeme, after, begins, scanned, begun as begun_with, is_digit, is_small, is_word, is_minus, two_mark, one_mark, mark_by, run_of}
 use Rattle.language.specs.declared.entry.Entry.{Entry}
+use Rattle.language.specs.declared.entry.Kind.TheVariants.{Blank}
 use Rattle.language.specs.declared.frame.Due.{Due}
 use Rattle.language.specs.declared.frame.Due.TheVariants.{Operand, Binder, Equals, Operator}
 use Rattle.language.specs.declared.frame.Frame.{Frame}
@@ -19,7 +23,7 @@ use Rattle.language.specs.declared.step.Opening.TheVariants.{Leaf, Name, Nested,
 use Rattle.language.specs.declared.step.Sequel.{Sequel}
 use Rattle.language.specs.declared.step.Sequel.TheVariants.{Join, Turn, Bring, Shut, Finish}
 use Rattle.language.specs.declared.token.TokenKind.{TokenKind}
-use Rattle.reader.specs.Outcomes.{laid}
+use Rattle.reader.specs.Outcomes.{paired, laid}
 use Rattle.reader.specs.Steps.{put, Stepped}
 
 -- a step counts the entries that it adds
@@ -228,21 +232,23 @@ put_fits table n (x ∷ es) h =
     ∙ (ap (λ a. (take n table ++ x ∷ []) ++ (es ++ a)) (drop-set-lt (n + 1 + length es) table n x less ∙ ap (λ j. drop j table) k)
     ∙ append_assoc (take n table) (x ∷ []) (es ++ drop (n + suc (length es)) table)))
 
--- the answer and the table of a reading that fits
-pub record Kept (r : Result (List Entry) Refusal) (old new : List Entry) (n : ℕ) : Type 0 where
-  pub answered : Ok n ≡ answer (fitted (length old) r)
-  pub left : new ≡ leaves old (fitted (length old) r)
-
-pub keeps : (r : Result (List Entry) Refusal) (old table : List Entry) (n : ℕ) → Ok (n, table) ≡ laid old 0 r → n ≤ 512 → n ≤ length old → Kept r old table n
-keeps (Ok es) old table n e few room =
+-- what the table holds where the answer is a number, and what it is to hold where it is a refusal
+pub left_ok : (x : Result (List Entry) Refusal) (old table : List Entry) (r : Result ℕ Refusal) → paired r table ≡ laid old 0 x → is_err r ≡ false → IfOk r (λ n. n ≤ length old) → table ≡ leaves old x
+left_ok x old table (Err e) h t room = absurd (true≢false t)
+left_ok (Err d) old table (Ok n) h t room = let z : ◌≡◌ {A = ℕ} 0 1 = cc in absurd (omega arith)
+left_ok (Ok es) old table (Ok n) h t room =
     let pair : ◌≡◌ {A = ℕ × List Entry} (n, table) (0 + length es, put old 0 es) = cc in
-    let same : n ≡ length es = ap (λ (q : ℕ × List Entry). q.0) pair ∙ omega arith in
+    let same = ap (λ (q : ℕ × List Entry). q.0) pair in
     let fits : 0 + length es ≤ length old = omega arith in
     let z : 0 + length es ≡ length es = omega arith in
-    let b : ltb (min (length old) 512) (length es) ≡ false = le-ltb (min (length old) 512) (length es) (omega arith) in
-    let f : fitted (length old) (Ok es) ≡ Ok es = cond-false (ltb (min (length old) 512) (length es)) (Err (TooManyEntries (length es))) (Ok es) b in
-    record {
-      answered = ap Ok same ∙ sym (ap answer f);
-      left = ap (λ (q : ℕ × List Entry). q.1) pair ∙ (put_fits old 0 es fits ∙ (ap (λ k. es ++ drop k old) z ∙ sym (ap (leaves old) f)));
-    }
-keeps (Err d) old table n e few room = let z : ◌≡◌ {A = ℕ} 0 1 = cc in absurd (omega arith)
+    ap (λ (q : ℕ × List Entry). q.1) pair ∙ (put_fits old 0 es fits ∙ ap (λ k. es ++ drop k old) z)
+
+pub left_err : (x : Result (List Entry) Refusal) (old table : List Entry) (r : Result ℕ Refusal) → paired r table ≡ laid old 0 x → is_err r ≡ true → leaves old x ≡ replicate (length old) blank
+left_err x old table (Ok n) h t = absurd (true≢false (sym t))
+left_err (Ok es) old table (Err e) h t = let z : ◌≡◌ {A = ℕ} 0 1 = cc in absurd (omega arith)
+left_err (Err d) old table (Err e) h t = refl
+
+-- a table of entries that hold nothing is one of blank entries
+pub filled : (old table new : List Entry) (k : Argument) → k.negative ≡ false → k.size ≡ 0 → length table ≡ length old → new ≡ replicate (length table) (entry Blank k 0 0) → new ≡ replicate (length old) blank
+filled old table new k n z long e =
+    e ∙ (ap (λ m. replicate m (entry Blank k 0 0)) long ∙ ap (λ a. replicate (length old) (entry Blank a 0 0)) (same_argument {a = k} {b = plus 0} n z))
