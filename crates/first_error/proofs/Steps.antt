@@ -1,7 +1,7 @@
 -- A step refuses only at the place of its token.
 use Rattle.std.proofs.Common.{◌≡◌, ℕ, Bool, true, false, cond, eqb, ltb, List, [], ◌∷◌, Some, None, Ok, Err, Option, refl, subst}
 use Rattle.refusal.specs.declared.Refusal.{Refusal}
-use Rattle.language.specs.Fold.{State, Step, named, enter, begun, opening_of, misplaced, is_name, is_equal, ended, endings, ends, turn_to, turn_top, turned, turn_of, in_of, brought, shut_top, is_paren, finish_top, gone_on, sequel_of, duly, feed}
+use Rattle.language.specs.Fold.{State, Step, named, enter, begun_by, begun, opening_of, misplaced, is_name, is_equal, ended, endings, ends, turn_to, turn_top, turned, turn_of, in_of, brought, shut_top, is_paren, finish_top, gone_on_by, gone_on, sequel_of, duly, feed}
 use Rattle.language.specs.Frames.{above, deep}
 use Rattle.language.specs.Operators.{row_of}
 use Rattle.language.specs.Tokens.{Lexeme}
@@ -11,9 +11,9 @@ use Rattle.language.specs.declared.frame.Due.TheVariants.{Operand, Binder, Equal
 use Rattle.language.specs.declared.frame.Frame.{Frame}
 use Rattle.language.specs.declared.frame.Mark.{Mark}
 use Rattle.language.specs.declared.step.Opening.{Opening}
-use Rattle.language.specs.declared.step.Opening.TheVariants.{Leaf, Name as NameOpening, Nested, Whole, Nothing}
+use Rattle.language.specs.declared.step.Opening.TheVariants.{Leaf, Name as NameOpening, Nested, Whole}
 use Rattle.language.specs.declared.step.Sequel.{Sequel}
-use Rattle.language.specs.declared.step.Sequel.TheVariants.{Join, Turn, Bring, Shut, Finish, Nothing as NoSequel}
+use Rattle.language.specs.declared.step.Sequel.TheVariants.{Join, Turn, Bring, Shut, Finish}
 use Rattle.language.specs.declared.token.TokenKind.{TokenKind}
 use Rattle.language.specs.declared.token.TokenKind.TheVariants.{Number, Truth, Name, Binary, Prefix, If, Then, Else, Let, In, Open, Close, End, TooLarge, Bad}
 use Rattle.first_error.specs.Law.{place_of}
@@ -50,12 +50,15 @@ at_named (Some i) p s = tt
 at_enter : (m : Mark) (p : ℕ) (d : Due) (s : State) → At p (enter m p d s)
 at_enter m p d s = at_if (ltb (deep s.frames) 64) p _ _ tt refl
 
-at_begun : (o : Opening) (s : State) (k : TokenKind) (p : ℕ) (x : List ℕ) → At p (begun o s k p x)
-at_begun (Leaf e n) s k p x = tt
-at_begun NameOpening s k p x = at_named _ p s
-at_begun (Nested m) s k p x = at_enter m p Operand s
-at_begun (Whole m d) s k p x = at_if (eqb (above s.frames) 0) p _ _ (at_enter m p d s) refl
-at_begun Nothing s k p x = at_misplaced k p
+at_begun_by : (o : Opening) (s : State) (p : ℕ) (x : List ℕ) → At p (begun_by o s p x)
+at_begun_by (Leaf e n) s p x = tt
+at_begun_by NameOpening s p x = at_named _ p s
+at_begun_by (Nested m) s p x = at_enter m p Operand s
+at_begun_by (Whole m d) s p x = at_if (eqb (above s.frames) 0) p _ _ (at_enter m p d s) refl
+
+at_begun : (o : Option Opening) (s : State) (k : TokenKind) (p : ℕ) (x : List ℕ) → At p (begun o s k p x)
+at_begun None s k p x = at_misplaced k p
+at_begun (Some o) s k p x = at_begun_by o s p x
 
 at_turn_to : (o : Option Mark) (p : ℕ) (u : State) (es : List Entry) → At p (turn_to o p u es)
 at_turn_to None p u es = refl
@@ -77,13 +80,16 @@ at_finish : (p : ℕ) (fs : List Frame) (u : State) (es : List Entry) → At p (
 at_finish p [] u es = tt
 at_finish p (f ∷ fs) u es = refl
 
-at_gone_on : (q : Sequel) (s : State) (k : TokenKind) (p : ℕ) → At p (gone_on q s k p)
-at_gone_on (Join o) s k p = at_if (eqb (above (ended (ends o) s).frames) (row_of o).level) p _ _ refl tt
-at_gone_on (Turn w) s k p = at_turn (turn_of w) p (ended 0 s).frames (ended 0 s) (endings 0 s)
-at_gone_on Bring s k p = at_brought p (turned in_of p (ended 0 s) (endings 0 s)) (at_turn in_of p (ended 0 s).frames (ended 0 s) (endings 0 s))
-at_gone_on Shut s k p = at_shut p (ended 0 s).frames (ended 0 s) (endings 0 s)
-at_gone_on Finish s k p = at_finish p (ended 0 s).frames (ended 0 s) (endings 0 s)
-at_gone_on NoSequel s k p = at_misplaced k p
+at_gone_on_by : (q : Sequel) (s : State) (p : ℕ) → At p (gone_on_by q s p)
+at_gone_on_by (Join o) s p = at_if (eqb (above (ended (ends o) s).frames) (row_of o).level) p _ _ refl tt
+at_gone_on_by (Turn w) s p = at_turn (turn_of w) p (ended 0 s).frames (ended 0 s) (endings 0 s)
+at_gone_on_by Bring s p = at_brought p (turned in_of p (ended 0 s) (endings 0 s)) (at_turn in_of p (ended 0 s).frames (ended 0 s) (endings 0 s))
+at_gone_on_by Shut s p = at_shut p (ended 0 s).frames (ended 0 s) (endings 0 s)
+at_gone_on_by Finish s p = at_finish p (ended 0 s).frames (ended 0 s) (endings 0 s)
+
+at_gone_on : (q : Option Sequel) (s : State) (k : TokenKind) (p : ℕ) → At p (gone_on q s k p)
+at_gone_on None s k p = at_misplaced k p
+at_gone_on (Some q) s k p = at_gone_on_by q s p
 
 at_duly : (d : Due) (s : State) (k : TokenKind) (p : ℕ) (x : List ℕ) → At p (duly d s k p x)
 at_duly Operand s k p x = at_begun (opening_of k) s k p x

@@ -20,9 +20,9 @@ use Rattle.language.specs.declared.frame.Mark.TheVariants.{Paren, Condition, The
 use Rattle.language.specs.declared.operator.Operator.{Operator}
 use Rattle.language.specs.declared.operator.Operator.TheVariants.{Or, And, Equal, AtMost, Plus, Times}
 use Rattle.language.specs.declared.step.Opening.{Opening}
-use Rattle.language.specs.declared.step.Opening.TheVariants.{Leaf, Name as NameOpening, Nested, Whole, Nothing as NoOpening}
+use Rattle.language.specs.declared.step.Opening.TheVariants.{Leaf, Name as NameOpening, Nested, Whole}
 use Rattle.language.specs.declared.step.Sequel.{Sequel}
-use Rattle.language.specs.declared.step.Sequel.TheVariants.{Join, Turn as TurnTo, Bring, Shut, Finish, Nothing as NoSequel}
+use Rattle.language.specs.declared.step.Sequel.TheVariants.{Join, Turn as TurnTo, Bring, Shut, Finish}
 use Rattle.language.specs.declared.step.Turn.{Turn}
 use Rattle.language.specs.declared.step.Turn.TheVariants.{Then as ThenTurn, Else as ElseTurn}
 use Rattle.language.specs.declared.token.TokenKind.{TokenKind}
@@ -84,30 +84,33 @@ misplaced End p = Unexpected p
 misplaced TooLarge p = NumberTooLarge p
 misplaced Bad p = NoToken p
 
--- what a token begins where an operand is due
-abbrev pub opening_of : TokenKind → Opening
-opening_of (Number k) = Leaf NumberKind k
-opening_of (Truth b) = Leaf TruthKind (plus (cond b 1 0))
-opening_of Name = NameOpening
-opening_of (Prefix o) = Nested (PrefixMark o)
-opening_of Open = Nested Paren
-opening_of If = Whole Condition Operand
-opening_of Let = Whole Binder BinderDue
-opening_of (Binary o) = NoOpening
-opening_of Then = NoOpening
-opening_of Else = NoOpening
-opening_of In = NoOpening
-opening_of Close = NoOpening
-opening_of End = NoOpening
-opening_of TooLarge = NoOpening
-opening_of Bad = NoOpening
+-- what a token begins where an operand is due, if anything
+abbrev pub opening_of : TokenKind → Option Opening
+opening_of (Number k) = Some (Leaf NumberKind k)
+opening_of (Truth b) = Some (Leaf TruthKind (plus (cond b 1 0)))
+opening_of Name = Some NameOpening
+opening_of (Prefix o) = Some (Nested (PrefixMark o))
+opening_of Open = Some (Nested Paren)
+opening_of If = Some (Whole Condition Operand)
+opening_of Let = Some (Whole Binder BinderDue)
+opening_of (Binary o) = None
+opening_of Then = None
+opening_of Else = None
+opening_of In = None
+opening_of Close = None
+opening_of End = None
+opening_of TooLarge = None
+opening_of Bad = None
 
-abbrev pub begun : Opening → State → TokenKind → ℕ → List ℕ → Step
-begun (Leaf e n) s k p x = leaf e n p s
-begun NameOpening s k p x = named (position x s.scope) p s
-begun (Nested m) s k p x = enter m p Operand s
-begun (Whole m d) s k p x = enter_whole m p d s
-begun NoOpening s k p x = Err (misplaced k p)
+abbrev pub begun_by : Opening → State → ℕ → List ℕ → Step
+begun_by (Leaf e n) s p x = leaf e n p s
+begun_by NameOpening s p x = named (position x s.scope) p s
+begun_by (Nested m) s p x = enter m p Operand s
+begun_by (Whole m d) s p x = enter_whole m p d s
+
+abbrev pub begun : Option Opening → State → TokenKind → ℕ → List ℕ → Step
+begun None s k p x = Err (misplaced k p)
+begun (Some o) s k p x = begun_by o s p x
 
 -- the frame on top with another mark, before entries that come after n
 abbrev pub remarked : Mark → ℕ → List Frame → List Frame
@@ -265,31 +268,34 @@ finish_top p (f ∷ fs) u es = Err (Unexpected p)
 abbrev pub finished : ℕ → State → List Entry → Step
 finished p u es = finish_top p u.frames u es
 
--- what a token does where an operand has ended
-abbrev pub sequel_of : TokenKind → Sequel
-sequel_of (Binary o) = Join o
-sequel_of Then = TurnTo ThenTurn
-sequel_of Else = TurnTo ElseTurn
-sequel_of In = Bring
-sequel_of Close = Shut
-sequel_of End = Finish
-sequel_of (Number k) = NoSequel
-sequel_of (Truth b) = NoSequel
-sequel_of Name = NoSequel
-sequel_of (Prefix o) = NoSequel
-sequel_of Open = NoSequel
-sequel_of If = NoSequel
-sequel_of Let = NoSequel
-sequel_of TooLarge = NoSequel
-sequel_of Bad = NoSequel
+-- what a token does where an operand has ended, if anything
+abbrev pub sequel_of : TokenKind → Option Sequel
+sequel_of (Binary o) = Some (Join o)
+sequel_of Then = Some (TurnTo ThenTurn)
+sequel_of Else = Some (TurnTo ElseTurn)
+sequel_of In = Some Bring
+sequel_of Close = Some Shut
+sequel_of End = Some Finish
+sequel_of (Number k) = None
+sequel_of (Truth b) = None
+sequel_of Name = None
+sequel_of (Prefix o) = None
+sequel_of Open = None
+sequel_of If = None
+sequel_of Let = None
+sequel_of TooLarge = None
+sequel_of Bad = None
 
-abbrev pub gone_on : Sequel → State → TokenKind → ℕ → Step
-gone_on (Join o) s k p = joined o p (ended (ends o) s) (endings (ends o) s)
-gone_on (TurnTo w) s k p = turned (turn_of w) p (ended 0 s) (endings 0 s)
-gone_on Bring s k p = brought (turned in_of p (ended 0 s) (endings 0 s))
-gone_on Shut s k p = shut p (ended 0 s) (endings 0 s)
-gone_on Finish s k p = finished p (ended 0 s) (endings 0 s)
-gone_on NoSequel s k p = Err (misplaced k p)
+abbrev pub gone_on_by : Sequel → State → ℕ → Step
+gone_on_by (Join o) s p = joined o p (ended (ends o) s) (endings (ends o) s)
+gone_on_by (TurnTo w) s p = turned (turn_of w) p (ended 0 s) (endings 0 s)
+gone_on_by Bring s p = brought (turned in_of p (ended 0 s) (endings 0 s))
+gone_on_by Shut s p = shut p (ended 0 s) (endings 0 s)
+gone_on_by Finish s p = finished p (ended 0 s) (endings 0 s)
+
+abbrev pub gone_on : Option Sequel → State → TokenKind → ℕ → Step
+gone_on None s k p = Err (misplaced k p)
+gone_on (Some q) s k p = gone_on_by q s p
 
 abbrev pub duly : Due → State → TokenKind → ℕ → List ℕ → Step
 duly Operand s k p x = begun (opening_of k) s k p x

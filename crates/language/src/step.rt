@@ -16,8 +16,6 @@ pub enum Opening {
     Nested(Mark),
     /// A frame that stands only where a whole expression may, and what is due in it first.
     Whole(Mark, Due),
-    /// Nothing.
-    Nothing,
 }
 
 /// A word that leads from one part of an if to the next.
@@ -40,6 +38,4 @@ pub enum Sequel {
     Shut,
     /// The text ends.
     Finish,
-    /// Nothing.
-    Nothing,
 }

@@ -1,5 +1,6 @@
 -- Operators find room, and so do the names of lets.
-use Rattle.std.proofs.Common.{◌≡◌, ℕ, ◌+◌, ◌<◌, ◌≤◌, Bool, true, false, cond, ltb, List, [], ◌∷◌, Some, None, Option, sym, refl, ap, ◌∙◌, subst, arith}
+use Rattle.std.proofs.Common.{◌≡◌, ℕ, ◌+◌, ◌<◌, ◌≤◌, Bool, true, false, cond, ltb, List, [], ◌∷◌, Some, None, Option, Ok, sym, refl, ap, ◌∙◌, subst, arith}
+use Rattle.std.specs.Option.{ok_or}
 use Rattle.std.proofs.lemmas.Bool.{cond-true, cond-false, leb-false, lt-ltb, true≢false}
 use Rattle.language.specs.Fold.{ends, remarked, turn_of}
 use Rattle.language.specs.Frames.{level_by, above, binds, left, nests, deep, is_body}
@@ -64,6 +65,11 @@ pub operator_opens : (o : Operator) (fs gs : List Frame) (n : ℕ) → gs ≡ le
 operator_opens o fs gs n e a apart =
     let l : above gs < ends o = subst (λ hs. above hs < ends o) (sym e) (left_above (ends o) fs (ends_low o) (ends_high o)) in
     lt-ltb (above gs) (row_of o).level (ends_at o (above gs) l (λ same. apart (a ∙ same)))
+
+-- what was there if there was no refusal
+pub was_some : {X E : Type 0} (o : Option X) (e : E) (x : X) → ok_or o e ≡ Ok x → o ≡ Some x
+was_some None e x h = let z : ◌≡◌ {A = ℕ} 0 1 = cc in absurd (omega arith)
+was_some (Some y) e x h = cc
 
 clash : (n : Mark) → ◌≡◌ {A = Option Mark} None (Some n) → ⊥
 clash n e = let z : ◌≡◌ {A = ℕ} 0 1 = cc in omega arith

@@ -1,5 +1,4 @@
-pub mod Scopes
+pub mod Fields
 pub mod Stacks
-pub mod Steps
 pub mod Lets
 pub mod Whole

@@ -1,89 +1,133 @@
 -- Reading token by token gives what the fold over all tokens gives.
-use Rattle.std.proofs.Common.{◌≡◌, ℕ, zero, suc, ◌+◌, ◌<◌, ◌≤◌, min, Bool, true, false, cond, ◌&&◌, ◌||◌, eqb, ltb, leb, List, [], ◌∷◌, ◌++◌, length, get_or, take, drop, set, Some, None, Ok, Err, Option, Result, sym, refl, ap, ◌∙◌, subst, append_assoc, arith, length-append}
+use Rattle.std.proofs.Common.{◌≡◌, ℕ, zero, suc, ◌+◌, ◌<◌, ◌≤◌, Bool, true, false, cond, ◌&&◌, ◌||◌, eqb, ltb, leb, List, [], ◌∷◌, ◌++◌, length, get_or, take, drop, set, replicate, IfOk, is_err, Some, None, Ok, Err, Option, Result, sym, refl, ap, ◌∙◌, subst, append_assoc, arith, length-append}
 use Rattle.std.proofs.lemmas.List.{append-nil, take-append-drop, take_more_set, drop-set-lt, length-set}
-use Rattle.std.proofs.lemmas.Bool.{cond-true, cond-false, true≢false, or_left, le-ltb, eqb-false}
+use Rattle.std.proofs.lemmas.Bool.{cond-true, cond-false, true≢false, or_left, eqb-false}
 use Rattle.refusal.specs.declared.Refusal.{Refusal}
-use Rattle.refusal.specs.declared.Refusal.TheVariants.{TooManyEntries}
-use Rattle.language.specs.Fold.{State, Step, named, enter, begun, opening_of, is_name, is_equal, ended, endings, ends, turn_to, turn_top, turned, turn_of, in_of, brought, shut_top, is_paren, finish_top, gone_on, sequel_of, duly, feed, feeds, prefixed, followed}
-use Rattle.language.specs.Frames.{above, deep}
+use Rattle.bytecode.specs.Words.{plus}
+use Rattle.bytecode.specs.declared.argument.Argument.{Argument}
+use Rattle.bytecode.proofs.Words.{same_argument}
+use Rattle.language.specs.Fold.{State, Step, named, enter, begun_by, begun, opening_of, remarked, is_name, bound, is_equal, ended, endings, ends, joined, turn_to, turn_top, turned, turn_of, in_of, brought, shut_top, is_paren, finish_top, gone_on_by, gone_on, sequel_of, duly, feed, feeds, prefixed, followed}
+use Rattle.language.specs.Frames.{above, binds, joint, left, closed, deep}
 use Rattle.language.specs.Operators.{row_of}
-use Rattle.language.specs.Reading.{is_last, tokens_from, fitted, answer, leaves}
+use Rattle.language.specs.Reading.{is_last, tokens_from, leaves}
+use Rattle.language.specs.Tree.{entry, blank}
 use Rattle.language.specs.Tokens.{Lexeme, lexeme, after, begins, scanned, begun as begun_with, is_digit, is_small, is_word, is_minus, two_mark, one_mark, mark_by, run_of}
 use Rattle.language.specs.declared.entry.Entry.{Entry}
+use Rattle.language.specs.declared.entry.Kind.TheVariants.{Blank}
 use Rattle.language.specs.declared.frame.Due.{Due}
 use Rattle.language.specs.declared.frame.Due.TheVariants.{Operand, Binder, Equals, Operator}
 use Rattle.language.specs.declared.frame.Frame.{Frame}
 use Rattle.language.specs.declared.frame.Mark.{Mark}
+use Rattle.language.specs.declared.frame.Mark.TheVariants.{Value}
+use Rattle.language.specs.declared.operator.Operator.{Operator as OperatorOf}
 use Rattle.language.specs.declared.step.Opening.{Opening}
-use Rattle.language.specs.declared.step.Opening.TheVariants.{Leaf, Name, Nested, Whole, Nothing}
+use Rattle.language.specs.declared.step.Opening.TheVariants.{Leaf, Name, Nested, Whole}
 use Rattle.language.specs.declared.step.Sequel.{Sequel}
-use Rattle.language.specs.declared.step.Sequel.TheVariants.{Join, Turn, Bring, Shut, Finish, Nothing as NoSequel}
+use Rattle.language.specs.declared.step.Sequel.TheVariants.{Join, Turn, Bring, Shut, Finish}
 use Rattle.language.specs.declared.token.TokenKind.{TokenKind}
-use Rattle.reader.specs.Outcomes.{laid}
-use Rattle.reader.specs.Steps.{put, Stepped}
+use Rattle.reader.specs.Outcomes.{paired, laid}
+use Rattle.reader.specs.Steps.{view, put, Answered, Stepped}
+use Rattle.reader.specs.declared.parser.Parser.{Parser}
 
--- a step counts the entries that it adds
-abbrev Counts : ℕ → Step → Type 0
-Counts n (Ok u) = u.0.count ≡ n + length u.1
-Counts n (Err e) = Unit {0}
+-- entries and frames together
+abbrev total : State → ℕ
+total s = s.count + length s.frames
 
-counts_if : (b : Bool) (n : ℕ) (x y : Step) → Counts n x → Counts n y → Counts n (cond b x y)
-counts_if true n x y f g = f
-counts_if false n x y f g = g
+-- a step counts the entries that it adds, and leaves no more entries and frames than that
+abbrev Counts : ℕ → ℕ → Step → Type 0
+Counts n most (Ok u) = (u.0.count ≡ n + length u.1) × (total u.0 ≤ most)
+Counts n most (Err e) = Unit {0}
+
+counts_if : (b : Bool) (n most : ℕ) (x y : Step) → Counts n most x → Counts n most y → Counts n most (cond b x y)
+counts_if true n most x y f g = f
+counts_if false n most x y f g = g
+
+counts_named : (o : Option ℕ) (p : ℕ) (s : State) → Counts s.count (total s + 1) (named o p s)
+counts_named None p s = tt
+counts_named (Some i) p s = (refl, omega arith)
+
+counts_enter : (m : Mark) (p : ℕ) (d : Due) (s : State) → Counts s.count (total s + 1) (enter m p d s)
+counts_enter m p d s = counts_if (ltb (deep s.frames) 64) s.count (total s + 1) _ _ (omega arith, omega arith) tt
+
+counts_begun_by : (o : Opening) (s : State) (p : ℕ) (x : List ℕ) → Counts s.count (total s + 1) (begun_by o s p x)
+counts_begun_by (Leaf e n) s p x = (refl, omega arith)
+counts_begun_by Name s p x = counts_named _ p s
+counts_begun_by (Nested m) s p x = counts_enter m p Operand s
+counts_begun_by (Whole m d) s p x = counts_if (eqb (above s.frames) 0) s.count (total s + 1) _ _ (counts_enter m p d s) tt
+
+counts_begun : (o : Option Opening) (s : State) (k : TokenKind) (p : ℕ) (x : List ℕ) → Counts s.count (total s + 1) (begun o s k p x)
+counts_begun None s k p x = tt
+counts_begun (Some o) s k p x = counts_begun_by o s p x
+
+length-remarked : (m : Mark) (n : ℕ) (fs : List Frame) → length (remarked m n fs) ≡ length fs
+length-remarked m n [] = refl
+length-remarked m n (f ∷ fs) = refl
+
+-- what ends is no frame any more
+closed_left : (b : Bool) (k n : ℕ) (f : Frame) (fs : List Frame) → length (closed k fs (n + 1)) + length (left k fs) ≡ length fs →
+    length (cond b (joint f n ∷ closed k fs (n + 1)) []) + length (cond b (left k fs) (f ∷ fs)) ≡ suc (length fs)
+closed_left true k n f fs h = omega arith
+closed_left false k n f fs h = omega arith
+
+length-closed : (k n : ℕ) (fs : List Frame) → length (closed k fs n) + length (left k fs) ≡ length fs
+length-closed k n [] = refl
+length-closed k n (f ∷ fs) = closed_left (binds k f.mark) k n f fs (length-closed k (n + 1) fs)
+
+total_ended : (k : ℕ) (s : State) → total (ended k s) ≤ total s + 1
+total_ended k s = let e = length-closed k s.count s.frames in omega arith
+
+counts_turn_to : (o : Option Mark) (p n most : ℕ) (u : State) (es : List Entry) → u.count ≡ n + length es → total u ≤ most → Counts n most (turn_to o p u es)
+counts_turn_to None p n most u es h t = tt
+counts_turn_to (Some m) p n most u es h t = let e = length-remarked m u.count u.frames in (h, omega arith)
+
+counts_turn : (g : Mark → Option Mark) (p n most : ℕ) (fs : List Frame) (u : State) (es : List Entry) → u.count ≡ n + length es → total u ≤ most → Counts n most (turn_top g p fs u es)
+counts_turn g p n most [] u es h t = tt
+counts_turn g p n most (f ∷ fs) u es h t = counts_turn_to (g f.mark) p n most u es h t
+
+counts_brought : (n most : ℕ) (x : Step) → Counts n most x → Counts n most (brought x)
+counts_brought n most (Ok u) h = h
+counts_brought n most (Err e) h = tt
+
+counts_shut : (p n most : ℕ) (fs : List Frame) (u : State) (es : List Entry) → u.count ≡ n + length es → u.count + length fs ≤ most → Counts n most (shut_top p fs u es)
+counts_shut p n most [] u es h t = tt
+counts_shut p n most (f ∷ fs) u es h t = counts_if (is_paren f.mark) n most _ _ (h, omega arith) tt
+
+counts_finish : (p n most : ℕ) (fs : List Frame) (u : State) (es : List Entry) → u.count ≡ n + length es → total u ≤ most → Counts n most (finish_top p fs u es)
+counts_finish p n most [] u es h t = (h, t)
+counts_finish p n most (f ∷ fs) u es h t = tt
+
+counts_joined : (o : OperatorOf) (p : ℕ) (s : State) → Counts s.count (total s + 1) (joined o p (ended (ends o) s) (endings (ends o) s))
+counts_joined o p s =
+    let e = length-closed (ends o) s.count s.frames in
+    counts_if (eqb (above (ended (ends o) s).frames) (row_of o).level) s.count (total s + 1) _ _ tt (refl, omega arith)
+
+counts_gone_on_by : (q : Sequel) (s : State) (p : ℕ) → Counts s.count (total s + 1) (gone_on_by q s p)
+counts_gone_on_by (Join o) s p = counts_joined o p s
+counts_gone_on_by (Turn w) s p = counts_turn (turn_of w) p s.count (total s + 1) (ended 0 s).frames (ended 0 s) (endings 0 s) refl (total_ended 0 s)
+counts_gone_on_by Bring s p = counts_brought s.count (total s + 1) (turned in_of p (ended 0 s) (endings 0 s)) (counts_turn in_of p s.count (total s + 1) (ended 0 s).frames (ended 0 s) (endings 0 s) refl (total_ended 0 s))
+counts_gone_on_by Shut s p = counts_shut p s.count (total s + 1) (ended 0 s).frames (ended 0 s) (endings 0 s) refl (total_ended 0 s)
+counts_gone_on_by Finish s p = counts_finish p s.count (total s + 1) (ended 0 s).frames (ended 0 s) (endings 0 s) refl (total_ended 0 s)
+
+counts_gone_on : (q : Option Sequel) (s : State) (k : TokenKind) (p : ℕ) → Counts s.count (total s + 1) (gone_on q s k p)
+counts_gone_on None s k p = tt
+counts_gone_on (Some q) s k p = counts_gone_on_by q s p
+
+counts_bound : (s : State) (k : TokenKind) (p : ℕ) (x : List ℕ) → Counts s.count (total s + 1) (bound s k p x)
+counts_bound s k p x =
+    let e = length-remarked Value s.count s.frames in
+    counts_if (is_name k) s.count (total s + 1) _ _ (omega arith, omega arith) tt
+
+counts_duly : (d : Due) (s : State) (k : TokenKind) (p : ℕ) (x : List ℕ) → Counts s.count (total s + 1) (duly d s k p x)
+counts_duly Operand s k p x = counts_begun (opening_of k) s k p x
+counts_duly Binder s k p x = counts_bound s k p x
+counts_duly Equals s k p x = counts_if (is_equal k) s.count (total s + 1) _ _ (omega arith, omega arith) tt
+counts_duly Operator s k p x = counts_gone_on (sequel_of k) s k p
+
+feed_counts : (s : State) (t : Lexeme) → Counts s.count (total s + 1) (feed s t)
+feed_counts s t = counts_duly s.due s t.kind t.place t.text
 
 none_added : (n : ℕ) → n ≡ n + 0
 none_added n = omega arith
-
-counts_named : (o : Option ℕ) (p : ℕ) (s : State) → Counts s.count (named o p s)
-counts_named None p s = tt
-counts_named (Some i) p s = refl
-
-counts_enter : (m : Mark) (p : ℕ) (d : Due) (s : State) → Counts s.count (enter m p d s)
-counts_enter m p d s = counts_if (ltb (deep s.frames) 64) s.count _ _ (none_added s.count) tt
-
-counts_begun : (o : Opening) (s : State) (k : TokenKind) (p : ℕ) (x : List ℕ) → Counts s.count (begun o s k p x)
-counts_begun (Leaf e n) s k p x = refl
-counts_begun Name s k p x = counts_named _ p s
-counts_begun (Nested m) s k p x = counts_enter m p Operand s
-counts_begun (Whole m d) s k p x = counts_if (eqb (above s.frames) 0) s.count _ _ (counts_enter m p d s) tt
-counts_begun Nothing s k p x = tt
-
-counts_turn_to : (o : Option Mark) (p n : ℕ) (u : State) (es : List Entry) → u.count ≡ n + length es → Counts n (turn_to o p u es)
-counts_turn_to None p n u es h = tt
-counts_turn_to (Some m) p n u es h = h
-
-counts_turn : (g : Mark → Option Mark) (p n : ℕ) (fs : List Frame) (u : State) (es : List Entry) → u.count ≡ n + length es → Counts n (turn_top g p fs u es)
-counts_turn g p n [] u es h = tt
-counts_turn g p n (f ∷ fs) u es h = counts_turn_to (g f.mark) p n u es h
-
-counts_brought : (n : ℕ) (x : Step) → Counts n x → Counts n (brought x)
-counts_brought n (Ok u) h = h
-counts_brought n (Err e) h = tt
-
-counts_shut : (p n : ℕ) (fs : List Frame) (u : State) (es : List Entry) → u.count ≡ n + length es → Counts n (shut_top p fs u es)
-counts_shut p n [] u es h = tt
-counts_shut p n (f ∷ fs) u es h = counts_if (is_paren f.mark) n _ _ h tt
-
-counts_finish : (p n : ℕ) (fs : List Frame) (u : State) (es : List Entry) → u.count ≡ n + length es → Counts n (finish_top p fs u es)
-counts_finish p n [] u es h = h
-counts_finish p n (f ∷ fs) u es h = tt
-
-counts_gone_on : (q : Sequel) (s : State) (k : TokenKind) (p : ℕ) → Counts s.count (gone_on q s k p)
-counts_gone_on (Join o) s k p = counts_if (eqb (above (ended (ends o) s).frames) (row_of o).level) s.count _ _ tt refl
-counts_gone_on (Turn w) s k p = counts_turn (turn_of w) p s.count (ended 0 s).frames (ended 0 s) (endings 0 s) refl
-counts_gone_on Bring s k p = counts_brought s.count (turned in_of p (ended 0 s) (endings 0 s)) (counts_turn in_of p s.count (ended 0 s).frames (ended 0 s) (endings 0 s) refl)
-counts_gone_on Shut s k p = counts_shut p s.count (ended 0 s).frames (ended 0 s) (endings 0 s) refl
-counts_gone_on Finish s k p = counts_finish p s.count (ended 0 s).frames (ended 0 s) (endings 0 s) refl
-counts_gone_on NoSequel s k p = tt
-
-counts_duly : (d : Due) (s : State) (k : TokenKind) (p : ℕ) (x : List ℕ) → Counts s.count (duly d s k p x)
-counts_duly Operand s k p x = counts_begun (opening_of k) s k p x
-counts_duly Binder s k p x = counts_if (is_name k) s.count _ _ (none_added s.count) tt
-counts_duly Equals s k p x = counts_if (is_equal k) s.count _ _ (none_added s.count) tt
-counts_duly Operator s k p x = counts_gone_on (sequel_of k) s k p
-
-feed_counts : (s : State) (t : Lexeme) → Counts s.count (feed s t)
-feed_counts s t = counts_duly s.due s t.kind t.place t.text
 
 -- entries written one list after another
 put_more : (table : List Entry) (n : ℕ) (es fs : List Entry) → put table n (es ++ fs) ≡ put (put table n es) (n + length es) fs
@@ -134,22 +178,22 @@ unfolding Moves
 token_moves text p l = let h = scanned_moves (drop (begins text p) text) l in omega arith
 
 -- what a step that was refused, and one that was not, says of the fold
-stepped_err : (x : Step) (r : Result (Unit {0}) Refusal) (s : State) (n : ℕ) (old table : List Entry) (e : Refusal) → Stepped x r s n old table → r ≡ Err e → x ≡ Err e
-stepped_err (Ok u) r s n old table e h was = let q = h.0 in let z : ◌≡◌ {A = ℕ} 0 1 = cc in absurd (omega arith)
-stepped_err (Err d) r s n old table e h was = let q : r ≡ Err d = h in cc
+answered_err : (x : Step) (r : Result (Unit {0}) Refusal) (old new : Parser) (e : Refusal) → Answered x r old new → r ≡ Err e → x ≡ Err e
+answered_err (Ok u) r old new e h was = let q = h.0 in let z : ◌≡◌ {A = ℕ} 0 1 = cc in absurd (omega arith)
+answered_err (Err d) r old new e h was = let q : r ≡ Err d = h in cc
 
-record Went (x : Step) (s : State) (n : ℕ) (old table : List Entry) : Type 0 where
+record Went (x : Step) (old new : Parser) : Type 0 where
   pub next : State × List Entry
   pub was : x ≡ Ok next
-  pub state : s ≡ next.0
-  pub written : table ≡ put old n next.1
+  pub state : view new ≡ next.0
+  pub written : new.table.now ≡ put old.table.now old.count next.1
 
-stepped_ok : (x : Step) (r : Result (Unit {0}) Refusal) (s : State) (n : ℕ) (old table : List Entry) (v : Unit {0}) → Stepped x r s n old table → r ≡ Ok v → Went x s n old table
-stepped_ok (Ok u) r s n old table v h was = record { next = u; was = refl; state = h.1; written = h.2 }
-stepped_ok (Err d) r s n old table v h was = let q : r ≡ Err d = h in let z : ◌≡◌ {A = ℕ} 0 1 = cc in absurd (omega arith)
+answered_ok : (x : Step) (r : Result (Unit {0}) Refusal) (old new : Parser) (v : Unit {0}) → Answered x r old new → r ≡ Ok v → Went x old new
+answered_ok (Ok u) r old new v h was = record { next = u; was = refl; state = h.1; written = h.2 }
+answered_ok (Err d) r old new v h was = let q : r ≡ Err d = h in let z : ◌≡◌ {A = ℕ} 0 1 = cc in absurd (omega arith)
 
-counts_ok : (n : ℕ) (x : Step) (u : State × List Entry) → Counts n x → x ≡ Ok u → u.0.count ≡ n + length u.1
-counts_ok n x u h e = subst (Counts n) e h
+counts_ok : (n most : ℕ) (x : Step) (u : State × List Entry) → Counts n most x → x ≡ Ok u → (u.0.count ≡ n + length u.1) × (total u.0 ≤ most)
+counts_ok n most x u h e = subst (Counts n most) e h
 
 -- the tokens from a place on begin with the token there
 feeds_err : (b : Bool) (s : State) (t : Lexeme) (ts : List Lexeme) (e : Refusal) → feed s t ≡ Err e → feeds s (cond b (t ∷ []) (t ∷ ts)) ≡ Err e
@@ -165,47 +209,61 @@ feeds_on b s t ts u l h =
     ap (feeds s) (cond-false b (t ∷ []) (t ∷ ts) l) ∙ ap (λ x. followed x (λ v. feeds v ts)) h
 
 -- one turn, at the place p of the text with tokens enough
-module _ (text : List ℕ) (p : ℕ) (s : State) (table : List Entry) (whole : Result (ℕ × List Entry) Refusal) (within : p ≤ length text) where
-  pub turn_err : (n : ℕ) → length text + 1 ≤ n + p → laid table s.count (feeds s (tokens_from n text p)) ≡ whole →
-      (t : Lexeme) (r : Result (Unit {0}) Refusal) (v : State) (new : List Entry) (e : Refusal) → t ≡ lexeme text p → Stepped (feed s t) r v s.count table new → r ≡ Err e → Err e ≡ whole
-  turn_err zero fuel inv t r v new e is step was = absurd (omega arith)
-  turn_err (suc k) fuel inv t r v new e is step was =
-      let x : feed s (lexeme text p) ≡ Err e = ap (feed s) (sym is) ∙ stepped_err (feed s t) r v s.count table new e step was in
-      sym (ap (laid table s.count) (feeds_err (is_last (lexeme text p).kind) s (lexeme text p) (tokens_from k text (after text p)) e x)) ∙ inv
+module _ (text : List ℕ) (p : ℕ) (old new : Parser) (whole : Result (ℕ × List Entry) Refusal) (within : p ≤ length text) where
+  abbrev s : State
+  s = view old
 
-  pub turn_last : (n : ℕ) → length text + 1 ≤ n + p → laid table s.count (feeds s (tokens_from n text p)) ≡ whole →
-      (t : Lexeme) (r : Result (Unit {0}) Refusal) (v : State) (new : List Entry) (o : Unit {0}) → t ≡ lexeme text p → Stepped (feed s t) r v s.count table new → r ≡ Ok o → is_last t.kind ≡ true → Ok (v.count, new) ≡ whole
-  turn_last zero fuel inv t r v new o is step was last = absurd (omega arith)
-  turn_last (suc k) fuel inv t r v new o is step was last =
-      let w = stepped_ok (feed s t) r v s.count table new o step was in
+  pub turn_err : (n : ℕ) → length text + 1 ≤ n + p → laid old.table.now old.count (feeds s (tokens_from n text p)) ≡ whole →
+      (t : Lexeme) (r : Result (Unit {0}) Refusal) (e : Refusal) → t ≡ lexeme text p → Stepped (feed s t) r old new → r ≡ Err e → Err e ≡ whole
+  turn_err zero fuel inv t r e is step was = absurd (omega arith)
+  turn_err (suc k) fuel inv t r e is step was =
+      let x : feed s (lexeme text p) ≡ Err e = ap (feed s) (sym is) ∙ answered_err (feed s t) r old new e step.answer was in
+      sym (ap (laid old.table.now old.count) (feeds_err (is_last (lexeme text p).kind) s (lexeme text p) (tokens_from k text (after text p)) e x)) ∙ inv
+
+  pub turn_last : (n : ℕ) → length text + 1 ≤ n + p → laid old.table.now old.count (feeds s (tokens_from n text p)) ≡ whole →
+      (t : Lexeme) (r : Result (Unit {0}) Refusal) (o : Unit {0}) → t ≡ lexeme text p → Stepped (feed s t) r old new → r ≡ Ok o → is_last t.kind ≡ true → Ok (new.count, new.table.now) ≡ whole
+  turn_last zero fuel inv t r o is step was last = absurd (omega arith)
+  turn_last (suc k) fuel inv t r o is step was last =
+      let w = answered_ok (feed s t) r old new o step.answer was in
       let u = w.next in
       let x : feed s (lexeme text p) ≡ Ok u = ap (feed s) (sym is) ∙ w.was in
       let l : is_last (lexeme text p).kind ≡ true = ap (λ y. is_last y.kind) (sym is) ∙ last in
-      let c : v.count ≡ s.count + length u.1 = ap (λ y. y.count) w.state ∙ counts_ok s.count (feed s (lexeme text p)) u (feed_counts s (lexeme text p)) x in
-      ap (λ y. Ok (y, new)) c ∙ (ap (λ y. Ok (s.count + length u.1, y)) w.written
-      ∙ (sym (ap (laid table s.count) (feeds_last (is_last (lexeme text p).kind) s (lexeme text p) (tokens_from k text (after text p)) u l x)) ∙ inv))
+      let c : new.count ≡ old.count + length u.1 = ap (λ (y : State). y.count) w.state ∙ (counts_ok s.count (total s + 1) (feed s (lexeme text p)) u (feed_counts s (lexeme text p)) x).0 in
+      ap (λ y. Ok (y, new.table.now)) c ∙ (ap (λ y. Ok (old.count + length u.1, y)) w.written
+      ∙ (sym (ap (laid old.table.now old.count) (feeds_last (is_last (lexeme text p).kind) s (lexeme text p) (tokens_from k text (after text p)) u l x)) ∙ inv))
 
-  pub turn_on : (n : ℕ) → length text + 1 ≤ n + p → laid table s.count (feeds s (tokens_from n text p)) ≡ whole →
-      (t : Lexeme) (r : Result (Unit {0}) Refusal) (v : State) (new : List Entry) (o : Unit {0}) → t ≡ lexeme text p → Stepped (feed s t) r v s.count table new → r ≡ Ok o → is_last t.kind ≡ false →
-      (k : ℕ) × (length text + 1 ≤ k + after text p) × (laid new v.count (feeds v (tokens_from k text (after text p))) ≡ whole)
-  turn_on zero fuel inv t r v new o is step was last = absurd (omega arith)
-  turn_on (suc k) fuel inv t r v new o is step was last =
-      let w = stepped_ok (feed s t) r v s.count table new o step was in
+  -- what a step leaves where another token follows
+  pub record Turned : Type 0 where
+    pub fuel : ℕ
+    pub enough : length text + 1 ≤ fuel + after text p
+    pub rest : laid new.table.now new.count (feeds (view new) (tokens_from fuel text (after text p))) ≡ whole
+    pub room : total (view new) ≤ total s + 1
+    pub same : new.table.ghost_name ≡ old.table.ghost_name
+
+  pub turn_on : (n : ℕ) → length text + 1 ≤ n + p → laid old.table.now old.count (feeds s (tokens_from n text p)) ≡ whole →
+      (t : Lexeme) (r : Result (Unit {0}) Refusal) (o : Unit {0}) → t ≡ lexeme text p → Stepped (feed s t) r old new → r ≡ Ok o → is_last t.kind ≡ false → Turned
+  turn_on zero fuel inv t r o is step was last = absurd (omega arith)
+  turn_on (suc k) fuel inv t r o is step was last =
+      let w = answered_ok (feed s t) r old new o step.answer was in
       let u = w.next in
       let x : feed s (lexeme text p) ≡ Ok u = ap (feed s) (sym is) ∙ w.was in
       let l : is_last (lexeme text p).kind ≡ false = ap (λ y. is_last y.kind) (sym is) ∙ last in
-      let c : u.0.count ≡ s.count + length u.1 = counts_ok s.count (feed s (lexeme text p)) u (feed_counts s (lexeme text p)) x in
+      let c = counts_ok s.count (total s + 1) (feed s (lexeme text p)) u (feed_counts s (lexeme text p)) x in
       let ts = tokens_from k text (after text p) in
       let moves = token_moves text p l in
-      let e : laid new v.count (feeds v ts) ≡ laid (put table s.count u.1) (s.count + length u.1) (feeds u.0 ts) =
-      ap (λ y. laid y v.count (feeds v ts)) w.written
-      ∙ (ap (λ y. laid (put table s.count u.1) y.count (feeds y ts)) w.state
-      ∙ ap (λ y. laid (put table s.count u.1) y (feeds u.0 ts)) c) in (
-        k,
-        omega arith,
-        e ∙ (sym (laid_more table s.count u.1 (feeds u.0 ts))
-            ∙ (sym (ap (laid table s.count) (feeds_on (is_last (lexeme text p).kind) s (lexeme text p) ts u l x)) ∙ inv)),
-      )
+      let e : laid new.table.now new.count (feeds (view new) ts) ≡ laid (put old.table.now old.count u.1) (old.count + length u.1) (feeds u.0 ts) =
+      ap (λ y. laid y new.count (feeds (view new) ts)) w.written
+      ∙ (ap (λ (y : State). laid (put old.table.now old.count u.1) y.count (feeds y ts)) w.state
+      ∙ ap (λ y. laid (put old.table.now old.count u.1) y (feeds u.0 ts)) c.0) in
+      record {
+        fuel = k;
+        enough = omega arith;
+        rest =
+            e ∙ (sym (laid_more old.table.now old.count u.1 (feeds u.0 ts))
+            ∙ (sym (ap (laid old.table.now old.count) (feeds_on (is_last (lexeme text p).kind) s (lexeme text p) ts u l x)) ∙ inv));
+        room = subst (λ y. total y ≤ total s + 1) (sym w.state) c.1;
+        same = step.same;
+      }
 
 -- a table with room for all that is written
 put_fits : (table : List Entry) (n : ℕ) (es : List Entry) → n + length es ≤ length table → put table n es ≡ take n table ++ (es ++ drop (n + length es) table)
@@ -222,21 +280,27 @@ put_fits table n (x ∷ es) h =
     ∙ (ap (λ a. (take n table ++ x ∷ []) ++ (es ++ a)) (drop-set-lt (n + 1 + length es) table n x less ∙ ap (λ j. drop j table) k)
     ∙ append_assoc (take n table) (x ∷ []) (es ++ drop (n + suc (length es)) table)))
 
--- the answer and the table of a reading that fits
-pub record Kept (r : Result (List Entry) Refusal) (old new : List Entry) (n : ℕ) : Type 0 where
-  pub answered : Ok n ≡ answer (fitted (length old) r)
-  pub left : new ≡ leaves old (fitted (length old) r)
-
-pub keeps : (r : Result (List Entry) Refusal) (old table : List Entry) (n : ℕ) → Ok (n, table) ≡ laid old 0 r → n ≤ 512 → n ≤ length old → Kept r old table n
-keeps (Ok es) old table n e few room =
+-- what the table holds where the answer is a number, and what it is to hold where it is a refusal
+pub left_ok : (x : Result (List Entry) Refusal) (old table : List Entry) (r : Result ℕ Refusal) → paired r table ≡ laid old 0 x → is_err r ≡ false → IfOk r (λ n. n ≤ length old) → table ≡ leaves old x
+left_ok x old table (Err e) h t room = absurd (true≢false t)
+left_ok (Err d) old table (Ok n) h t room = let z : ◌≡◌ {A = ℕ} 0 1 = cc in absurd (omega arith)
+left_ok (Ok es) old table (Ok n) h t room =
     let pair : ◌≡◌ {A = ℕ × List Entry} (n, table) (0 + length es, put old 0 es) = cc in
-    let same : n ≡ length es = ap (λ (q : ℕ × List Entry). q.0) pair ∙ omega arith in
+    let same = ap (λ (q : ℕ × List Entry). q.0) pair in
     let fits : 0 + length es ≤ length old = omega arith in
     let z : 0 + length es ≡ length es = omega arith in
-    let b : ltb (min (length old) 512) (length es) ≡ false = le-ltb (min (length old) 512) (length es) (omega arith) in
-    let f : fitted (length old) (Ok es) ≡ Ok es = cond-false (ltb (min (length old) 512) (length es)) (Err (TooManyEntries (length es))) (Ok es) b in
-    record {
-      answered = ap Ok same ∙ sym (ap answer f);
-      left = ap (λ (q : ℕ × List Entry). q.1) pair ∙ (put_fits old 0 es fits ∙ (ap (λ k. es ++ drop k old) z ∙ sym (ap (leaves old) f)));
-    }
-keeps (Err d) old table n e few room = let z : ◌≡◌ {A = ℕ} 0 1 = cc in absurd (omega arith)
+    ap (λ (q : ℕ × List Entry). q.1) pair ∙ (put_fits old 0 es fits ∙ ap (λ k. es ++ drop k old) z)
+
+pub left_err : (x : Result (List Entry) Refusal) (old table : List Entry) (r : Result ℕ Refusal) → paired r table ≡ laid old 0 x → is_err r ≡ true → leaves old x ≡ replicate (length old) blank
+left_err x old table (Ok n) h t = absurd (true≢false (sym t))
+left_err (Ok es) old table (Err e) h t = let z : ◌≡◌ {A = ℕ} 0 1 = cc in absurd (omega arith)
+left_err (Err d) old table (Err e) h t = refl
+
+-- a table of entries that hold nothing is one of blank entries
+pub filled : (old table new : List Entry) (k : Argument) → k.negative ≡ false → k.size ≡ 0 → length table ≡ length old → new ≡ replicate (length table) (entry Blank k 0 0) → new ≡ replicate (length old) blank
+filled old table new k n z long e =
+    e ∙ (ap (λ m. replicate m (entry Blank k 0 0)) long ∙ ap (λ a. replicate (length old) (entry Blank a 0 0)) (same_argument {a = k} {b = plus 0} n z))
+
+pub paired_err : (r : Result ℕ Refusal) (table : List Entry) (e : Refusal) → r ≡ Err e → paired r table ≡ Err e
+paired_err (Ok n) table e h = let z : ◌≡◌ {A = ℕ} 0 1 = cc in absurd (omega arith)
+paired_err (Err d) table e h = let same : d ≡ e = cc in ap Err same

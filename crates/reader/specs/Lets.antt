@@ -2,7 +2,7 @@
 use Rattle.std.specs.Prelude.{◌≡◌, ℕ, ◌+◌, Bool, true, false, cond, List, [], ◌∷◌}
 use Rattle.language.specs.Frames.{frame, nests, is_body}
 use Rattle.language.specs.declared.step.Opening.{Opening}
-use Rattle.language.specs.declared.step.Opening.TheVariants.{Leaf, Name, Nested, Whole, Nothing}
+use Rattle.language.specs.declared.step.Opening.TheVariants.{Leaf, Name, Nested, Whole}
 use Rattle.language.specs.declared.frame.Due.{Due}
 use Rattle.language.specs.declared.frame.Due.TheVariants.{Operand, Binder as BinderDue, Equals, Operator}
 use Rattle.language.specs.declared.frame.Frame.{Frame}
@@ -66,4 +66,3 @@ Opened (Leaf k n) = Unit {0}
 Opened Name = Unit {0}
 Opened (Nested m) = Opens m Operand
 Opened (Whole m d) = Opens m d
-Opened Nothing = Unit {0}

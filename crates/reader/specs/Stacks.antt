@@ -1,14 +1,8 @@
--- The frames that an array holds, the newest first, and how they stand on one another.
-use Rattle.std.specs.Prelude.{ℕ, zero, suc, Bool, true, false, cond, ◌&&◌, List, [], ◌∷◌, Some, None, Option, nat_lt, slice_index_or}
-use Rattle.language.specs.Frames.{frame, level_by, above, nests, deep}
+-- How open frames, the newest first, stand on one another.
+use Rattle.std.specs.Prelude.{Bool, true, false, cond, ◌&&◌, List, [], ◌∷◌, Some, None, Option, nat_lt}
+use Rattle.language.specs.Frames.{level_by, above, nests, deep}
 use Rattle.language.specs.declared.frame.Frame.{Frame}
 use Rattle.language.specs.declared.frame.Mark.{Mark}
-use Rattle.language.specs.declared.frame.Mark.TheVariants.{Paren}
-
--- the first n frames of an array
-abbrev pub top_frames : List Frame → ℕ → List Frame
-top_frames fs zero = []
-top_frames fs (suc n) = slice_index_or fs n (frame Paren 0 0 0) ∷ top_frames fs n
 
 abbrev pub top : List Frame → Option Frame
 top [] = None

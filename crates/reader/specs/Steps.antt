@@ -15,12 +15,12 @@ abbrev pub put : List Entry → ℕ → List Entry → List Entry
 put table n [] = table
 put table n (e ∷ es) = put (slice_set table n e) (n + 1) es
 
--- a step that adds no entry: the answer, and the state on success
-abbrev pub Moved : Step → Result (Unit {0}) Refusal → State → Type 0
-Moved (Ok u) r s = (r ≡ Ok tt) × (s ≡ u.0) × (u.1 ≡ [])
-Moved (Err e) r s = r ≡ Err e
+-- the answer of a step, and on success the state and what the table then holds
+abbrev pub Answered : Step → Result (Unit {0}) Refusal → Parser → Parser → Type 0
+Answered (Ok u) r old new = (r ≡ Ok tt) × (view new ≡ u.0) × (new.table.now ≡ put old.table.now old.count u.1)
+Answered (Err e) r old new = r ≡ Err e
 
--- a step after n entries: the answer, and on success the state and what the table holds
-abbrev pub Stepped : Step → Result (Unit {0}) Refusal → State → ℕ → List Entry → List Entry → Type 0
-Stepped (Ok u) r s n old table = (r ≡ Ok tt) × (s ≡ u.0) × (table ≡ put old n u.1)
-Stepped (Err e) r s n old table = r ≡ Err e
+-- a step of a parser, which keeps its table
+pub record Stepped (x : Step) (r : Result (Unit {0}) Refusal) (old new : Parser) : Type 0 where
+  pub answer : Answered x r old new
+  pub same : new.table.ghost_name ≡ old.table.ghost_name

@@ -1,6 +1,6 @@
 //! What a token can do, by its kind.
 
-ghost use Rattle.std.specs.Prelude.{◌≡◌};
+ghost use Rattle.std.specs.Prelude.{◌≡◌, IfSome};
 ghost use Rattle.language.specs.Frames.{is_body};
 ghost use Rattle.language.specs.Fold.{opening_of, sequel_of, misplaced, is_name, is_equal, turn_of, is_paren};
 ghost use Rattle.reader.specs.Lets.{is_value, Opened};
@@ -10,20 +10,19 @@ use bytecode::Argument;
 use language::{Due, Kind, Mark, Opening, Operator, Sequel, TokenKind, Turn};
 use refusal::Refusal;
 
-/// What a token begins where an operand is due.
-pub(crate) fn opening(kind: TokenKind) -> Opening
+/// What a token begins where an operand is due, if anything.
+pub(crate) fn opening(kind: TokenKind) -> Option<Opening>
     ensures value { result ≡ opening_of kind }
-    ensures opened { Opened result }
+    ensures opened { IfSome result Opened }
 {
     match kind {
-        TokenKind::Number(k) => Opening::Leaf(Kind::Number, k),
-        TokenKind::Truth(true) => Opening::Leaf(Kind::Truth, Argument::plus(1)),
-        TokenKind::Truth(false) => Opening::Leaf(Kind::Truth, Argument::plus(0)),
-        TokenKind::Name => Opening::Name,
-        TokenKind::Prefix(prefix) => Opening::Nested(Mark::Prefix(prefix)),
-        TokenKind::Open => Opening::Nested(Mark::Paren),
-        TokenKind::If => Opening::Whole(Mark::Condition, Due::Operand),
-        TokenKind::Let => Opening::Whole(Mark::Binder, Due::Binder),
+        TokenKind::Number(k) => Some(Opening::Leaf(Kind::Number, k)),
+        TokenKind::Truth(b) => Some(Opening::Leaf(Kind::Truth, Argument::plus(u8::from(b)))),
+        TokenKind::Name => Some(Opening::Name),
+        TokenKind::Prefix(prefix) => Some(Opening::Nested(Mark::Prefix(prefix))),
+        TokenKind::Open => Some(Opening::Nested(Mark::Paren)),
+        TokenKind::If => Some(Opening::Whole(Mark::Condition, Due::Operand)),
+        TokenKind::Let => Some(Opening::Whole(Mark::Binder, Due::Binder)),
         TokenKind::Binary(_)
         | TokenKind::Then
         | TokenKind::Else
@@ -31,21 +30,21 @@ pub(crate) fn opening(kind: TokenKind) -> Opening
         | TokenKind::Close
         | TokenKind::End
         | TokenKind::TooLarge
-        | TokenKind::Bad => Opening::Nothing,
+        | TokenKind::Bad => None,
     }
 }
 
-/// What a token does where an operand has ended.
-pub(crate) fn sequel(kind: TokenKind) -> Sequel
+/// What a token does where an operand has ended, if anything.
+pub(crate) fn sequel(kind: TokenKind) -> Option<Sequel>
     ensures { result ≡ sequel_of kind }
 {
     match kind {
-        TokenKind::Binary(operator) => Sequel::Join(operator),
-        TokenKind::Then => Sequel::Turn(Turn::Then),
-        TokenKind::Else => Sequel::Turn(Turn::Else),
-        TokenKind::In => Sequel::Bring,
-        TokenKind::Close => Sequel::Shut,
-        TokenKind::End => Sequel::Finish,
+        TokenKind::Binary(operator) => Some(Sequel::Join(operator)),
+        TokenKind::Then => Some(Sequel::Turn(Turn::Then)),
+        TokenKind::Else => Some(Sequel::Turn(Turn::Else)),
+        TokenKind::In => Some(Sequel::Bring),
+        TokenKind::Close => Some(Sequel::Shut),
+        TokenKind::End => Some(Sequel::Finish),
         TokenKind::Number(_)
         | TokenKind::Truth(_)
         | TokenKind::Name
@@ -54,7 +53,7 @@ pub(crate) fn sequel(kind: TokenKind) -> Sequel
         | TokenKind::If
         | TokenKind::Let
         | TokenKind::TooLarge
-        | TokenKind::Bad => Sequel::Nothing,
+        | TokenKind::Bad => None,
     }
 }
 

@@ -1,7 +1,7 @@
 //! What there is to know of a frame's mark.
 
-ghost use Rattle.std.specs.Prelude.{◌≡◌, if◌then◌else◌};
-ghost use Rattle.language.specs.Frames.{level_by, binds, kind_of, nests};
+ghost use Rattle.std.specs.Prelude.{◌≡◌};
+ghost use Rattle.language.specs.Frames.{level_by, binds, kind_of, nests as nests_by};
 
 use language::{Kind, Mark};
 
@@ -47,19 +47,9 @@ pub(crate) fn kind(mark: Mark) -> Kind
     }
 }
 
-/// 1 for a frame that counts as nested, else 0.
-pub(crate) fn nesting(mark: Mark) -> usize
-    ensures { result ≡ (if nests mark then 1 else 0) }
+/// Whether a frame counts as nested.
+pub(crate) fn nests(mark: Mark) -> bool
+    ensures { result ≡ nests_by mark }
 {
-    match mark {
-        Mark::Binary(_) => 0,
-        Mark::Paren
-        | Mark::Condition
-        | Mark::Then
-        | Mark::Else
-        | Mark::Binder
-        | Mark::Value
-        | Mark::Body
-        | Mark::Prefix(_) => 1,
-    }
+    !matches!(mark, Mark::Binary(_))
 }

@@ -1,11 +1,21 @@
 //! A stack of names.
 
-ghost use Rattle.std.specs.Prelude.{◌≤◌};
+use arrayvec::ArrayVec;
 
-/// At most 64 names, each a part of the text that is read.
+/// A name, as the part of the text where it stands.
+#[derive(Clone, Copy)]
+pub struct Name<'a> {
+    pub text: &'a [u8],
+}
+
+impl<'a> Default for Name<'a> {
+    fn default() -> Self {
+        Name { text: &[] }
+    }
+}
+
+/// At most 64 names.
 #[derive(Drop)]
 pub struct Names<'a> {
-    pub names: [&'a [u8]; 64],
-    pub count: usize,
-    ghost few: { count ≤ 64 },
+    pub names: ArrayVec<Name<'a>, 64>,
 }

@@ -1,13 +1,13 @@
 //! The parser where an operand is due.
 
-ghost use Rattle.std.specs.Prelude.{◌≡◌, ◌+◌, ◌^◌, ◌<◌, ◌≤◌, true, false, [], ◌∷◌, Ok, slice_set};
+ghost use Rattle.std.specs.Prelude.{◌≡◌, ◌+◌, ◌^◌, ◌<◌, ◌≤◌, true, false, [], ◌∷◌, Ok, length};
 ghost use Rattle.language.specs.Fold.{fresh, leaf, opened, enter, enter_whole, opening_of, begun};
 ghost use Rattle.language.specs.Frames.{is_body, frame};
 ghost use Rattle.reader.specs.Lets.{is_value, due_fits, Opens};
 ghost use Rattle.lexer.specs.Lexing.{plain};
 ghost use Rattle.reader.specs.Opened.{frames_of};
 ghost use Rattle.reader.specs.Stacks.{opens};
-ghost use Rattle.reader.specs.Steps.{view, Moved, Stepped};
+ghost use Rattle.reader.specs.Steps.{view, Stepped};
 
 use crate::kinds::{opening, refused};
 use crate::names::Names;
@@ -17,26 +17,19 @@ use bytecode::Argument;
 use language::{Due, Entry, Frame, Kind, Mark, Opening, Token};
 use refusal::Refusal;
 
-/// Writes an entry, where the table has room.
-pub(crate) fn put_entry(table: &mut [Entry], at: usize, entry: Entry)
-    ensures { table.new ≡ slice_set table.old at entry }
-{
-    if at < table.len() {
-        table[at] = entry;
-    }
-}
-
-impl<'a> Parser<'a> {
-    /// Nothing is read yet. The text only fills the places of names.
-    pub(crate) fn new(text: &'a [u8]) -> Parser<'a>
+impl<'t, 'a> Parser<'t, 'a> {
+    /// Nothing is read yet.
+    pub(crate) fn new(table: &'t mut [Entry]) -> Parser<'t, 'a>
         ensures view { view result ≡ fresh }
-        ensures room { result.count + result.stack.used ≡ 0 }
+        ensures table { result.table.now ≡ table.old }
+        ensures same { result.table.ghost_name ≡ table.entry.ghost_name }
     {
         Parser {
             stack: Stack::new(),
-            pending: Names::new(text),
-            scope: Names::new(text),
+            pending: Names::new(),
+            scope: Names::new(),
             due: Due::Operand,
+            table,
             count: 0,
         }
     }
@@ -48,7 +41,7 @@ impl<'a> Parser<'a> {
         requires no_body { is_body mark ≡ false }
         requires fits { due_fits due (frame mark 0 0 0 ∷ []) ≡ true }
         ensures view { view self.new ≡ opened mark place whole due (view self.old) }
-        ensures room { self.new.count + self.new.stack.used ≡ self.old.count + self.old.stack.used + 1 }
+        ensures table { self.new.table ≡ self.old.table }
     {
         let first = self.count;
         self.stack.push(Frame {
@@ -63,8 +56,7 @@ impl<'a> Parser<'a> {
     // Opens a frame that nests, unless it is the 65th.
     fn enter(&mut self, mark: Mark, place: usize, due: Due) -> Result<(), Refusal>
         requires { Opens mark due }
-        ensures step { Moved (enter mark place due (view self.old)) result (view self.new) }
-        ensures room { self.new.count + self.new.stack.used ≤ self.old.count + self.old.stack.used + 1 }
+        ensures { Stepped (enter mark place due (view self.old)) result self.old self.new }
     {
         if self.stack.depth >= 64 {
             return Err(Refusal::TooDeep(place));
@@ -77,8 +69,7 @@ impl<'a> Parser<'a> {
     // Opens a frame that stands only where a whole expression may.
     fn enter_whole(&mut self, mark: Mark, place: usize, due: Due) -> Result<(), Refusal>
         requires { Opens mark due }
-        ensures step { Moved (enter_whole mark place due (view self.old)) result (view self.new) }
-        ensures room { self.new.count + self.new.stack.used ≤ self.old.count + self.old.stack.used + 1 }
+        ensures { Stepped (enter_whole mark place due (view self.old)) result self.old self.new }
     {
         if self.stack.above() != 0 {
             return Err(Refusal::Unexpected(place));
@@ -87,45 +78,42 @@ impl<'a> Parser<'a> {
     }
 
     // An operand of one entry.
-    fn leaf(&mut self, table: &mut [Entry], kind: Kind, number: Argument, place: usize)
-        requires { self.old.count + self.old.stack.used + 1 < 2 ^ 64 }
-        ensures step { Stepped (leaf kind number place (view self.old)) (Ok tt) (view self.new) self.old.count table.old table.new }
-        ensures room { self.new.count + self.new.stack.used ≡ self.old.count + self.old.stack.used + 1 }
+    fn leaf(&mut self, kind: Kind, number: Argument, place: usize)
+        requires { self.old.count + length (frames_of self.old.stack) + 1 < 2 ^ 64 }
+        ensures { Stepped (leaf kind number place (view self.old)) (Ok tt) self.old self.new }
     {
-        let count = self.count;
-        let entry = Entry {
+        self.put(Entry {
             kind,
             number,
             size: 1,
             place,
-        };
-        put_entry(table, count, entry);
-        self.count = count + 1;
+        });
         self.due = Due::Operator;
     }
 
     /// Takes a token where an operand is due.
-    pub(crate) fn begin(&mut self, token: Token<'a>, table: &mut [Entry]) -> Result<(), Refusal>
-        requires { self.old.count + self.old.stack.used + 1 < 2 ^ 64 }
-        ensures step { Stepped (begun (opening_of token.entry.kind) (view self.old) token.entry.kind token.entry.place token.entry.text.now) result (view self.new) self.old.count table.old table.new }
-        ensures room { self.new.count + self.new.stack.used ≤ self.old.count + self.old.stack.used + 1 }
+    pub(crate) fn begin(&mut self, token: Token<'a>) -> Result<(), Refusal>
+        requires { self.old.count + length (frames_of self.old.stack) + 1 < 2 ^ 64 }
+        ensures { Stepped (begun (opening_of token.entry.kind) (view self.old) token.entry.kind token.entry.place token.entry.text.now) result self.old self.new }
     {
         let place = token.place;
-        match opening(token.kind) {
+        let Some(opening) = opening(token.kind) else {
+            return Err(refused(token.kind, place));
+        };
+        match opening {
             Opening::Leaf(kind, number) => {
-                self.leaf(table, kind, number, place);
+                self.leaf(kind, number, place);
                 Ok(())
             }
             Opening::Name => match self.scope.position(token.text) {
                 Some(i) => {
-                    self.leaf(table, Kind::Name, Argument::plus(i as u8), place);
+                    self.leaf(Kind::Name, Argument::plus(i as u8), place);
                     Ok(())
                 }
                 None => Err(Refusal::UnboundName(place)),
             },
             Opening::Nested(mark) => self.enter(mark, place, Due::Operand),
             Opening::Whole(mark, due) => self.enter_whole(mark, place, due),
-            Opening::Nothing => Err(refused(token.kind, place)),
         }
     }
 }

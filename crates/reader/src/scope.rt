@@ -1,106 +1,85 @@
 //! The names of lets, and the search for a name.
 
-ghost use Rattle.std.specs.Prelude.{◌≡◌, ℕ, ◌+◌, ◌-◌, ◌<◌, ◌∷◌, ◌++◌, length, take, drop, IfSome};
+ghost use Rattle.std.specs.Prelude.{◌≡◌, ℕ, ◌+◌, ◌-◌, ◌<◌, [], ◌∷◌, ◌++◌, length, take, drop, IfSome};
 ghost use Rattle.language.specs.Names.{field_names, find, position};
 ghost use Rattle.reader.specs.Scopes.{newest_first, held};
 
-use crate::names::Names;
-use lexer::same;
+use crate::names::{Name, Names};
+use arrayvec::ArrayVec;
 
 impl<'a> Names<'a> {
-    /// No names. The text only fills the places.
-    pub(crate) fn new(text: &'a [u8]) -> Names<'a>
-        ensures { result.count ≡ 0 }
+    /// No names.
+    pub(crate) fn new() -> Names<'a>
+        ensures { held result ≡ [] }
     {
         Names {
-            names: [text; 64],
-            count: 0,
+            names: ArrayVec::new(),
         }
     }
 
     /// Puts a name on top.
-    pub(crate) fn push(&mut self, name: &'a [u8])
-        requires { self.old.count < 64 }
-        ensures held { held self.new ≡ name.now ∷ held self.old }
-        ensures count { self.new.count ≡ self.old.count + 1 }
+    pub(crate) fn push(&mut self, text: &'a [u8])
+        requires { length (held self.old) < 64 }
+        ensures held { held self.new ≡ text.now ∷ held self.old }
+        ensures count { length (held self.new) ≡ length (held self.old) + 1 }
     {
-        let count = self.count;
-        self.names[count] = name;
-        self.count = count + 1;
+        self.names.push(Name { text });
     }
 
     /// Takes the name on top off.
     pub(crate) fn pop(&mut self)
         ensures held { held self.new ≡ drop 1 (held self.old) }
-        ensures count { self.new.count ≡ self.old.count - 1 }
+        ensures count { length (held self.new) ≡ length (held self.old) - 1 }
     {
-        self.count = self.count.saturating_sub(1);
+        self.names.pop();
     }
 
     /// Takes the name on top off and puts it on top of the others.
     pub(crate) fn hand_over(&mut self, others: &mut Names<'a>)
-        requires some { 0 < self.old.count }
-        requires room { others.old.count < 64 }
+        requires some { 0 < length (held self.old) }
+        requires room { length (held others.old) < 64 }
         ensures held { held self.new ≡ drop 1 (held self.old) }
         ensures others { held others.new ≡ take 1 (held self.old) ++ held others.old }
-        ensures count { self.new.count + 1 ≡ self.old.count }
-        ensures counted { others.new.count ≡ others.old.count + 1 }
+        ensures count { length (held self.new) + 1 ≡ length (held self.old) }
+        ensures counted { length (held others.new) ≡ length (held others.old) + 1 }
     {
-        let last = self.count - 1;
-        others.push(self.names[last]);
-        self.count = last;
+        if let Some(name) = self.names.pop() {
+            others.names.push(name);
+        }
     }
 
     /// The position of a name, the newest name being the innermost binding and the fields standing outside all names.
-    pub(crate) fn position(&self, name: &[u8]) -> Option<usize>
-        ensures value { result ≡ position name.now (held self.now) }
+    pub(crate) fn position(&self, text: &[u8]) -> Option<usize>
+        ensures value { result ≡ position text.now (held self.now) }
         ensures bound { IfSome result (λ i. i < 72) }
     {
-        let count = self.count;
-        find_among(&self.names[0..count], name)
+        find_among(self.names.as_slice(), text)
     }
 }
+
+// The fields of a parcel, the innermost first.
+const FIELDS: [&[u8]; 8] = [
+    b"weight", b"length", b"width", b"height", b"depot", b"class", b"belt", b"ahead",
+];
 
 // The field of that name.
 fn field(name: &[u8]) -> Option<usize>
     ensures value { result ≡ find name.now field_names }
     ensures bound { IfSome result (λ i. i < 8) }
 {
-    if same(b"weight", name) {
-        Some(0)
-    } else if same(b"length", name) {
-        Some(1)
-    } else if same(b"width", name) {
-        Some(2)
-    } else if same(b"height", name) {
-        Some(3)
-    } else if same(b"depot", name) {
-        Some(4)
-    } else if same(b"class", name) {
-        Some(5)
-    } else if same(b"belt", name) {
-        Some(6)
-    } else if same(b"ahead", name) {
-        Some(7)
-    } else {
-        None
-    }
+    FIELDS.iter().position(|field| *field == name)
 }
 
 // Tries the newest name, and else calls on itself for those outside it.
-fn find_among(names: &[&[u8]], name: &[u8]) -> Option<usize>
-    ensures value { result ≡ position name.now (newest_first names.now) }
+fn find_among(names: &[Name<'_>], text: &[u8]) -> Option<usize>
+    ensures value { result ≡ position text.now (newest_first names.now) }
     ensures bound { IfSome result (λ i. i < length names.now + 8) }
 {
-    let n = names.len();
-    if n == 0 {
-        return field(name);
-    }
-    if same(names[n - 1], name) {
+    let Some((newest, outer)) = names.split_last() else {
+        return field(text);
+    };
+    if newest.text == text {
         return Some(0);
     }
-    match find_among(&names[0..n - 1], name) {
-        Some(i) => Some(i + 1),
-        None => None,
-    }
+    find_among(outer, text).map(|i| i + 1)
 }

@@ -1,12 +1,15 @@
 //! The parser where an operand has ended.
 
-ghost use Rattle.std.specs.Prelude.{◌≡◌, ◌+◌, ◌^◌, ◌<◌, ◌≤◌};
+ghost use Rattle.std.specs.Prelude.{◌≡◌, ◌+◌, ◌^◌, ◌<◌, ◌≤◌, length, Ok};
 ghost use Rattle.language.specs.Fold.{ends, ended, endings, joined, turned as turned_by, turn_of, in_of, brought, shut, finished, sequel_of, gone_on};
-ghost use Rattle.reader.specs.Steps.{view, put, Stepped};
+ghost use Rattle.std.specs.Option.{ok_or};
+ghost use Rattle.reader.specs.Stacks.{top};
+ghost use Rattle.reader.specs.Opened.{frames_of};
+ghost use Rattle.reader.specs.Steps.{view, Stepped};
 
 use crate::kinds::{is_paren, is_value, refused, sequel, turned};
 use crate::parser::Parser;
-use language::{Due, Entry, Mark, Operator, Sequel, Token, Turn};
+use language::{Due, Frame, Mark, Operator, Sequel, Token, Turn};
 use refusal::Refusal;
 
 // The level at which an operator ends what stands before it.
@@ -21,15 +24,13 @@ fn least_of(operator: Operator) -> usize
     }
 }
 
-impl<'a> Parser<'a> {
+impl<'t, 'a> Parser<'t, 'a> {
     // An operator between two operands.
-    fn join(&mut self, table: &mut [Entry], operator: Operator, place: usize) -> Result<(), Refusal>
-        requires room { self.old.count + self.old.stack.used + 1 < 2 ^ 64 }
-        requires due { self.old.due ≡ Due.Operator }
-        ensures step { Stepped (joined operator place (ended (ends operator) (view self.old)) (endings (ends operator) (view self.old))) result (view self.new) self.old.count table.old table.new }
-        ensures room { self.new.count + self.new.stack.used ≤ self.old.count + self.old.stack.used + 1 }
+    fn join(&mut self, operator: Operator, place: usize) -> Result<(), Refusal>
+        requires { self.old.count + length (frames_of self.old.stack) + 1 < 2 ^ 64 }
+        ensures { Stepped (joined operator place (ended (ends operator) (view self.old)) (endings (ends operator) (view self.old))) result self.old self.new }
     {
-        self.close(table, least_of(operator));
+        self.close(least_of(operator));
         if self.stack.above() == operator.row().level {
             return Err(Refusal::Unexpected(place));
         }
@@ -38,20 +39,23 @@ impl<'a> Parser<'a> {
         Ok(())
     }
 
-    // The next part of an if.
-    fn turn(&mut self, table: &mut [Entry], turn: Turn, place: usize) -> Result<(), Refusal>
-        requires room { self.old.count + self.old.stack.used + 1 < 2 ^ 64 }
-        requires due { self.old.due ≡ Due.Operator }
-        ensures step { Stepped (turned_by (turn_of turn) place (ended 0 (view self.old)) (endings 0 (view self.old))) result (view self.new) self.old.count table.old table.new }
-        ensures room { self.new.count + self.new.stack.used ≤ self.old.count + self.old.stack.used + 1 }
+    // The frame on top, once each frame has ended that may.
+    fn innermost(&mut self, place: usize) -> Result<Frame, Refusal>
+        requires { self.old.count + length (frames_of self.old.stack) + 1 < 2 ^ 64 }
+        ensures ended { Stepped (Ok (ended 0 (view self.old), endings 0 (view self.old))) (Ok tt) self.old self.new }
+        ensures top { result ≡ ok_or (top (frames_of self.new.stack)) (Refusal.Unexpected place) }
     {
-        self.close(table, 0);
-        let Some(frame) = self.stack.top() else {
-            return Err(Refusal::Unexpected(place));
-        };
-        let Some(mark) = turned(turn, frame.mark) else {
-            return Err(Refusal::Unexpected(place));
-        };
+        self.close(0);
+        self.stack.top().ok_or(Refusal::Unexpected(place))
+    }
+
+    // The next part of an if.
+    fn turn(&mut self, turn: Turn, place: usize) -> Result<(), Refusal>
+        requires { self.old.count + length (frames_of self.old.stack) + 1 < 2 ^ 64 }
+        ensures { Stepped (turned_by (turn_of turn) place (ended 0 (view self.old)) (endings 0 (view self.old))) result self.old self.new }
+    {
+        let frame = self.innermost(place)?;
+        let mark = turned(turn, frame.mark).ok_or(Refusal::Unexpected(place))?;
         let first = self.count;
         self.stack.remark(mark, first);
         self.due = Due::Operand;
@@ -59,16 +63,11 @@ impl<'a> Parser<'a> {
     }
 
     // The second expression of a let, in which its name is in scope.
-    fn bring(&mut self, table: &mut [Entry], place: usize) -> Result<(), Refusal>
-        requires room { self.old.count + self.old.stack.used + 1 < 2 ^ 64 }
-        requires due { self.old.due ≡ Due.Operator }
-        ensures step { Stepped (brought (turned_by in_of place (ended 0 (view self.old)) (endings 0 (view self.old)))) result (view self.new) self.old.count table.old table.new }
-        ensures room { self.new.count + self.new.stack.used ≤ self.old.count + self.old.stack.used + 1 }
+    fn bring(&mut self, place: usize) -> Result<(), Refusal>
+        requires { self.old.count + length (frames_of self.old.stack) + 1 < 2 ^ 64 }
+        ensures { Stepped (brought (turned_by in_of place (ended 0 (view self.old)) (endings 0 (view self.old)))) result self.old self.new }
     {
-        self.close(table, 0);
-        let Some(frame) = self.stack.top() else {
-            return Err(Refusal::Unexpected(place));
-        };
+        let frame = self.innermost(place)?;
         if !is_value(frame.mark) {
             return Err(Refusal::Unexpected(place));
         }
@@ -80,16 +79,11 @@ impl<'a> Parser<'a> {
     }
 
     // The end of a parenthesis.
-    fn shut(&mut self, table: &mut [Entry], place: usize) -> Result<(), Refusal>
-        requires room { self.old.count + self.old.stack.used + 1 < 2 ^ 64 }
-        requires due { self.old.due ≡ Due.Operator }
-        ensures step { Stepped (shut place (ended 0 (view self.old)) (endings 0 (view self.old))) result (view self.new) self.old.count table.old table.new }
-        ensures room { self.new.count + self.new.stack.used ≤ self.old.count + self.old.stack.used + 1 }
+    fn shut(&mut self, place: usize) -> Result<(), Refusal>
+        requires { self.old.count + length (frames_of self.old.stack) + 1 < 2 ^ 64 }
+        ensures { Stepped (shut place (ended 0 (view self.old)) (endings 0 (view self.old))) result self.old self.new }
     {
-        self.close(table, 0);
-        let Some(frame) = self.stack.top() else {
-            return Err(Refusal::Unexpected(place));
-        };
+        let frame = self.innermost(place)?;
         if !is_paren(frame.mark) {
             return Err(Refusal::Unexpected(place));
         }
@@ -98,13 +92,11 @@ impl<'a> Parser<'a> {
     }
 
     // The end of the text.
-    fn finish(&mut self, table: &mut [Entry], place: usize) -> Result<(), Refusal>
-        requires room { self.old.count + self.old.stack.used + 1 < 2 ^ 64 }
-        requires due { self.old.due ≡ Due.Operator }
-        ensures step { Stepped (finished place (ended 0 (view self.old)) (endings 0 (view self.old))) result (view self.new) self.old.count table.old table.new }
-        ensures room { self.new.count + self.new.stack.used ≤ self.old.count + self.old.stack.used + 1 }
+    fn finish(&mut self, place: usize) -> Result<(), Refusal>
+        requires { self.old.count + length (frames_of self.old.stack) + 1 < 2 ^ 64 }
+        ensures { Stepped (finished place (ended 0 (view self.old)) (endings 0 (view self.old))) result self.old self.new }
     {
-        self.close(table, 0);
+        self.close(0);
         match self.stack.top() {
             Some(_) => Err(Refusal::Unexpected(place)),
             None => Ok(()),
@@ -112,20 +104,20 @@ impl<'a> Parser<'a> {
     }
 
     /// Takes a token where an operand has ended.
-    pub(crate) fn go_on(&mut self, token: Token<'a>, table: &mut [Entry]) -> Result<(), Refusal>
-        requires room { self.old.count + self.old.stack.used + 1 < 2 ^ 64 }
-        requires due { self.old.due ≡ Due.Operator }
-        ensures step { Stepped (gone_on (sequel_of token.entry.kind) (view self.old) token.entry.kind token.entry.place) result (view self.new) self.old.count table.old table.new }
-        ensures room { self.new.count + self.new.stack.used ≤ self.old.count + self.old.stack.used + 1 }
+    pub(crate) fn go_on(&mut self, token: Token<'a>) -> Result<(), Refusal>
+        requires { self.old.count + length (frames_of self.old.stack) + 1 < 2 ^ 64 }
+        ensures { Stepped (gone_on (sequel_of token.entry.kind) (view self.old) token.entry.kind token.entry.place) result self.old self.new }
     {
         let place = token.place;
-        match sequel(token.kind) {
-            Sequel::Join(operator) => self.join(table, operator, place),
-            Sequel::Turn(word) => self.turn(table, word, place),
-            Sequel::Bring => self.bring(table, place),
-            Sequel::Shut => self.shut(table, place),
-            Sequel::Finish => self.finish(table, place),
-            Sequel::Nothing => Err(refused(token.kind, place)),
+        let Some(sequel) = sequel(token.kind) else {
+            return Err(refused(token.kind, place));
+        };
+        match sequel {
+            Sequel::Join(operator) => self.join(operator, place),
+            Sequel::Turn(word) => self.turn(word, place),
+            Sequel::Bring => self.bring(place),
+            Sequel::Shut => self.shut(place),
+            Sequel::Finish => self.finish(place),
         }
     }
 }

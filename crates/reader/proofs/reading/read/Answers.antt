@@ -1,14 +1,17 @@
-use Rattle.std.proofs.Common.{ltb, length, Err, sym, ap, ◌∙◌, arith}
-use Rattle.std.proofs.lemmas.Bool.{cond-false, le-ltb}
-use Rattle.refusal.specs.declared.Refusal.TheVariants.{TextTooLong}
-use Rattle.language.specs.Reading.{parse, fitted, answer, leaves}
-use Rattle.reader.proofs.Whole.{keeps}
+use Rattle.std.proofs.Common.{length, sym, refl, ◌∙◌}
+use Rattle.language.specs.Reading.{reading}
+use Rattle.reader.proofs.Whole.{left_ok, left_err, filled}
 use Rattle.reader.proofs.reading.read.Goals as goal
 
-pub returns-in-Ok : goal.returns-in-Ok
-returns-in-Ok c =
-    let text = c.args.text.now in
+pub returns-then-is_err-clause-table : goal.returns-then-is_err-clause-table
+returns-then-is_err-clause-table c =
+    let w = c.write-read in
     let old = c.args.table.now in
-    let short = cond-false (ltb 4096 (length text)) (Err (TextTooLong (length text))) (fitted (length old) (parse text)) (le-ltb 4096 (length text) (omega arith)) in
-    let k = keeps (parse text) old c.write.new.table c.in-Ok.count c.in-Ok.ensures c.if-count-le512.true (omega arith) in
-    record { answer = k.answered ∙ sym (ap answer short); table = k.left ∙ sym (ap (leaves old) short) }
+    filled old w.new.table c.fill.new.self _ refl refl w.auto.table (c.fill.ensures.after (λ y e. e))
+    ∙ sym (left_err (reading (length old) c.args.text.now) old w.new.table w.result w.ensures.written (sym c.is_err.ensures.value ∙ c.if-is_err.true))
+
+pub returns-else-is_err-clause-table : goal.returns-else-is_err-clause-table
+returns-else-is_err-clause-table c =
+    let w = c.write-read in
+    let old = c.args.table.now in
+    left_ok (reading (length old) c.args.text.now) old w.new.table w.result w.ensures.written (sym c.is_err.ensures.value ∙ c.if-is_err.false) w.ensures.room

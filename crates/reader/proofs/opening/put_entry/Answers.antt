@@ -1,7 +1,0 @@
-use Rattle.std.proofs.Common.{sym, arith}
-use Rattle.std.proofs.lemmas.List.{set_past}
-use Rattle.reader.proofs.opening.put_entry.Goals as goal
-
--- a write past the end changes nothing
-pub returns-else-at-table : goal.returns-else-at-table
-returns-else-at-table c = sym (set_past c.args.table.now c.args.at c.args.entry (omega arith))
