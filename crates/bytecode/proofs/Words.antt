@@ -82,11 +82,14 @@ only_written (suc (suc (suc (suc (suc (suc (suc (suc (suc (suc (suc (suc (suc o)
 behind_three : (o s v : ℕ) (rest : List ℕ) → take (length (o ∷ (s ∷ (v ∷ rest))) - 3) rest ≡ rest
 behind_three o s v rest = let e : length (o ∷ (s ∷ (v ∷ rest))) - 3 ≡ length rest = omega arith in ap (λ n. take n rest) e ∙ take-length rest
 
-pub decodes_only : (i : Instruction) (bs : List ℕ) → 3 ≤ length bs → instruction_of (get_or bs 0 0) (get_or bs 1 0) (get_or bs 2 0) ≡ Some i → bs ≡ bytes_of (written i) ++ take (length bs - 3) (drop 3 bs)
-decodes_only i [] h e = absurd (omega arith)
-decodes_only i (o ∷ []) h e = absurd (omega arith)
-decodes_only i (o ∷ (s ∷ [])) h e = absurd (omega arith)
-decodes_only i (o ∷ (s ∷ (v ∷ rest))) h e = sym (ap (λ w. bytes_of w ++ take (length (o ∷ (s ∷ (v ∷ rest))) - 3) rest) (only_written o s v i e) ∙ ap (λ r. o ∷ (s ∷ (v ∷ r))) (behind_three o s v rest))
+-- bytes that read as an instruction are those that write it, before what stands behind them
+pub decodes_only : (i : Instruction) (w : Word) (bs : List ℕ) → 3 ≤ length bs → bytes_of w ≡ get_or bs 0 0 ∷ (get_or bs 1 0 ∷ (get_or bs 2 0 ∷ [])) → instruction_in w ≡ Some i → bs ≡ bytes_of (written i) ++ take (length bs - 3) (drop 3 bs)
+decodes_only i w [] h b e = absurd (omega arith)
+decodes_only i w (o ∷ []) h b e = absurd (omega arith)
+decodes_only i w (o ∷ (s ∷ [])) h b e = absurd (omega arith)
+decodes_only i w (o ∷ (s ∷ (v ∷ rest))) h b e =
+    let front : bytes_of (written i) ≡ o ∷ (s ∷ (v ∷ [])) = ap bytes_of (only_written w.opcode w.sign w.value i e) ∙ b in
+    sym (ap (λ x. x ++ take (length (o ∷ (s ∷ (v ∷ rest))) - 3) rest) front ∙ ap (λ r. o ∷ (s ∷ (v ∷ r))) (behind_three o s v rest))
 
 -- a size that is not 0 makes a number below 0
 pub below_zero : (k : ℕ) (h : 1 ≤ k) → (k ≡ 0 → ⊥) → Some (record { negative = true; size = k; proper = h }) ≡ argument_of 1 k

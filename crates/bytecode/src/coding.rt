@@ -2,7 +2,7 @@
 
 ghost use Rattle.std.specs.Prelude.{◌≡◌, ℕ, List, ◌++◌, IfSome, Some, None};
 ghost use Rattle.std.specs.Option.{option_map};
-ghost use Rattle.bytecode.specs.Words.{plus, word, bytes_of, signed_word, written, empty_of, size_of, argument_of, instruction_of, instruction_in, decoded};
+ghost use Rattle.bytecode.specs.Words.{plus, word, bytes_of, signed_word, written, empty_of, size_of, argument_of, instruction_in, decoded};
 
 use crate::argument::Argument;
 use crate::instruction::{Instruction, Word};
@@ -29,16 +29,6 @@ impl Argument {
             negative: true,
             size,
         })
-    }
-}
-
-impl Word {
-    /// The instruction that the word is, or none.
-    pub fn instruction(self) -> Option<Instruction>
-        ensures { result ≡ instruction_in self }
-    {
-        let bytes: [u8; 3] = self.into();
-        decode(&bytes).0
     }
 }
 
@@ -88,65 +78,68 @@ impl Instruction {
     }
 }
 
-// The instruction, if the bytes behind its opcode are 0.
-fn empty(instruction: Instruction, sign: u8, value: u8) -> Option<Instruction>
-    ensures { result ≡ empty_of instruction sign value }
-{
-    (sign == 0 && value == 0).then_some(instruction)
-}
-
-// The size behind an opcode.
-fn size(sign: u8, value: u8) -> Option<u8>
-    ensures { result ≡ size_of sign value }
-{
-    (sign == 0).then_some(value)
-}
-
-// The signed number behind an opcode.
-fn argument(sign: u8, value: u8) -> Option<Argument>
-    ensures { result ≡ argument_of sign value }
-{
-    match sign {
-        0 => Some(Argument::plus(value)),
-        1 => Argument::minus(value),
-        _ => None,
+impl Word {
+    // The instruction, if the bytes behind the opcode are 0.
+    fn empty(self, instruction: Instruction) -> Option<Instruction>
+        ensures { result ≡ empty_of instruction self.sign self.value }
+    {
+        (self.sign == 0 && self.value == 0).then_some(instruction)
     }
-}
 
-// The instruction of three bytes.
-fn instruction_of(opcode: u8, sign: u8, value: u8) -> Option<Instruction>
-    ensures { result ≡ instruction_of opcode sign value }
-{
-    match opcode {
-        0 => empty(Instruction::Push, sign, value),
-        1 => empty(Instruction::Addi, sign, value),
-        2 => empty(Instruction::Eqi, sign, value),
-        3 => empty(Instruction::Ori, sign, value),
-        4 => argument(sign, value).map(Instruction::Consti),
-        5 => empty(Instruction::Pop, sign, value),
-        6 => size(sign, value).map(Instruction::Acc),
-        7 => size(sign, value).map(Instruction::Popi),
-        8 => argument(sign, value).map(Instruction::Branch),
-        9 => argument(sign, value).map(Instruction::Branchif),
-        10 => size(sign, value).map(Instruction::Assign),
-        11 => empty(Instruction::Multi, sign, value),
-        12 => empty(Instruction::Leqi, sign, value),
-        _ => None,
+    // The size behind the opcode.
+    fn size(self) -> Option<u8>
+        ensures { result ≡ size_of self.sign self.value }
+    {
+        (self.sign == 0).then_some(self.value)
+    }
+
+    // The signed number behind the opcode.
+    fn argument(self) -> Option<Argument>
+        ensures { result ≡ argument_of self.sign self.value }
+    {
+        match self.sign {
+            0 => Some(Argument::plus(self.value)),
+            1 => Argument::minus(self.value),
+            _ => None,
+        }
+    }
+
+    /// The instruction that the word is, or none.
+    pub fn instruction(self) -> Option<Instruction>
+        ensures { result ≡ instruction_in self }
+    {
+        match self.opcode {
+            0 => self.empty(Instruction::Push),
+            1 => self.empty(Instruction::Addi),
+            2 => self.empty(Instruction::Eqi),
+            3 => self.empty(Instruction::Ori),
+            4 => self.argument().map(Instruction::Consti),
+            5 => self.empty(Instruction::Pop),
+            6 => self.size().map(Instruction::Acc),
+            7 => self.size().map(Instruction::Popi),
+            8 => self.argument().map(Instruction::Branch),
+            9 => self.argument().map(Instruction::Branchif),
+            10 => self.size().map(Instruction::Assign),
+            11 => self.empty(Instruction::Multi),
+            12 => self.empty(Instruction::Leqi),
+            _ => None,
+        }
     }
 }
 
 /// The first instruction of the bytes with the bytes behind it, or none with all the bytes, where they begin with no word
 /// or with one that is no instruction. The bytes that read as an instruction are those that write it.
 // A pair and no option of a pair: all bytes come back where no instruction stands, so a reader goes on from the answer alone.
+#[tactic(auto, using(crate::proofs::Words::decodes_only))]
 pub fn decode(bytes: &[u8]) -> (Option<Instruction>, &[u8])
     ensures value { (result.0, result.1.now) ≡ decoded bytes.now }
     ensures only { IfSome result.0 (λ i. bytes.now ≡ bytes_of (written i) ++ result.1.now) }
 {
-    match bytes {
-        [opcode, sign, value, rest @ ..] => match instruction_of(*opcode, *sign, *value) {
-            Some(instruction) => (Some(instruction), rest),
-            None => (None, bytes),
-        },
-        _ => (None, bytes),
+    let [opcode, sign, value, rest @ ..] = bytes else {
+        return (None, bytes);
+    };
+    match Word::from([*opcode, *sign, *value]).instruction() {
+        Some(instruction) => (Some(instruction), rest),
+        None => (None, bytes),
     }
 }

@@ -23,7 +23,8 @@ fn instruction_at<M: CodeMemory>(memory: &M, place: usize) -> Result<Instruction
         .ok_or(Refusal::BadWord(place))
 }
 
-// The bytes that the listing takes.
+// The bytes that the listing takes. A memory answers by place and gives no iterator; a fold over the places would be no
+// plainer, since its closure would carry the sum and the refusal.
 fn needed<M: CodeMemory>(memory: &M) -> Result<usize, Refusal>
     ensures { result ≡ size_of (listing 0 (M.CodeMemory.listed memory.now)) }
 {
@@ -34,7 +35,7 @@ fn needed<M: CodeMemory>(memory: &M) -> Result<usize, Refusal>
     Ok(bytes)
 }
 
-// Writes the lines of all words into an output that has room for them, and returns the bytes written.
+// Writes the lines of all words into an output that has room for them, place by place too, and returns the bytes written.
 fn put_lines<M: CodeMemory>(memory: &M, out: &mut [u8]) -> Result<usize, Refusal>
     requires { IsOkAnd (listing 0 (M.CodeMemory.listed memory.now)) (λ text. length text ≤ length out.old) }
     ensures answer { result ≡ answer_of (listing 0 (M.CodeMemory.listed memory.now)) (length out.old) }

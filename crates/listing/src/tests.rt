@@ -4,11 +4,7 @@ use memory::{CodeMemory, Flat};
 use refusal::Refusal;
 
 fn word(opcode: u8, sign: u8, value: u8) -> Word {
-    Word {
-        opcode,
-        sign,
-        value,
-    }
+    Word::from([opcode, sign, value])
 }
 
 fn fill<M: CodeMemory>(memory: &mut M, words: &[Word]) {
