@@ -2,7 +2,7 @@ use Rattle.std.proofs.Common.{ap, drop, length, ◌∙◌}
 use Rattle.std.proofs.lemmas.List.{get_or_default, drop-set-lt}
 use Rattle.storage.specs.declared.Operation.TheVariants.{Clear}
 use Rattle.storage.proofs.Ledgers.{one_more, told_more}
-use Rattle.storage.proofs.perform_all.Goals as goal
+use Rattle.storage.proofs.operate.Goals as goal
 
 pub loop-i-preserved : goal.loop-i-preserved
 loop-i-preserved g c =
