@@ -6,7 +6,7 @@ use native.Mathlib.Nat.{ℕ_set}
 use Rattle.std.specs.List.{slice_get, range_with_len}
 use Rattle.std.proofs.lemmas.List.FromFn.{length-map-range_with_len, get_or-map-range_with_len}
 use Rattle.std.proofs.lemmas.Option.{slice_get-get_or, slice_get_past}
-use Rattle.std.proofs.lemmas.Bool.{cases_eq, cond-true, cond-false, eq-eqb, ne_eqb, lt-ltb, le-ltb}
+use Rattle.std.proofs.lemmas.Bool.{cases_eq, cond-true, cond-false, eq-eqb, ne_eqb, lt-ltb}
 use Rattle.bytecode.specs.declared.instruction.Word.{Word}
 use Rattle.std.specs.Simd.{first_chunks}
 use borrow.Rule.Slice.PartMut.{mid_of}
@@ -16,7 +16,7 @@ use Rattle.memory.specs.Bytes.{word_at}
 use Rattle.memory.proofs.Bytes.{alike, beside, part_word, copied_put, chunk_word}
 use Rattle.records.specs.Layout.{next, first_free, count, records_for, reached, spot, code_at, code, Linked, Formed}
 use Rattle.records.specs.Writes.{recounted, filled, taken, opened, added, last_after, appended_in, joined, emptied, cleared_in}
-use Rattle.records.specs.Steps.{Stands, Stays, Appends, Clears, index_after}
+use Rattle.records.specs.Steps.{Stands, Stays, Appends, Clears}
 use Rattle.records.proofs.Links.{reached_order, same_links, inside, takes, joins}
 use Rattle.records.proofs.Codes.{words_set, count_beside, count_back, fill_count, same_code_at, fills, fill_code}
 
@@ -74,12 +74,6 @@ code_there bytes place r x size l within e is =
     let p = slice_get-get_or (code bytes) place x (rw length_code l) in
     let q = get_or-map-range_with_len (code_at bytes) 0 (count bytes) place place x l (omega arith) in
     ap (λ y. Some y) s ∙ (sym (ap (λ y. Some y) q) ∙ sym p)
-
-pub index_there : (bytes : List ℕ) (index place : ℕ) → place < count bytes → place / 5 + 1 ≡ index_after bytes index place
-index_there bytes index place l = sym (cond-true (ltb place (count bytes)) (place / 5 + 1) index (lt-ltb _ _ l))
-
-pub index_past : (bytes : List ℕ) (index place : ℕ) → count bytes ≤ place → index ≡ index_after bytes index place
-index_past bytes index place l = sym (cond-false (ltb place (count bytes)) (place / 5 + 1) index (le-ltb _ _ l))
 
 -- Appending.
 
