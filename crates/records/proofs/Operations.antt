@@ -7,7 +7,7 @@ use Rattle.std.specs.List.{slice_get, range_with_len}
 use Rattle.std.proofs.lemmas.List.FromFn.{length-map-range_with_len, get_or-map-range_with_len}
 use Rattle.std.proofs.lemmas.Option.{slice_get-get_or, slice_get_past}
 use Rattle.std.proofs.lemmas.Bool.Decides.{nat_tests}
-use Rattle.std.proofs.lemmas.Bool.{cases_eq, cond-true, cond-false, eq-eqb, ne_eqb, lt-ltb}
+use Rattle.std.proofs.lemmas.Bool.{cases_eq, cond-true, lt-ltb}
 use Rattle.bytecode.specs.declared.instruction.Word.{Word}
 use Rattle.std.specs.Simd.{first_chunks}
 use borrow.Rule.Slice.PartMut.{mid_of}
@@ -238,12 +238,12 @@ empties bytes f last e =
     let order = f.0 in
     elim (cases_eq c 0) [
       | inl z ↦
-          let a : emptied bytes last ≡ bytes = cond-true _ _ _ (eq-eqb c 0 z) in
+          let a : emptied bytes last ≡ bytes = grind (arith, nat_tests) in
           subst (λ bs. Empties bytes f bs) (sym a) (record { none = z; linked = subst (λ k. Linked bytes k order f.1.0) (ap records_for z) h })
       | inr u ↦
           let is : last ≡ order n = e ∙ reached_order h n (omega arith) in
           let base = joined bytes (order n) in
-          let a : emptied bytes last ≡ recounted base 0 = cond-false _ _ _ (ne_eqb c 0 u) ∙ ap (λ r. recounted (joined bytes r) 0) is in
+          let a : emptied bytes last ≡ recounted base 0 = grind (arith, nat_tests) in
           let g = joins h (omega arith) in
           let size = h.size in
           let k : Linked (recounted base 0) 0 order f.1.0 = same_links g (recounted base 0) (simp length-set size) (λ j p q. count_beside base 0 j (λ z. omega arith) (λ z. omega arith)) (λ r l. count_beside base 0 (16 * r) (λ z. omega arith) (λ z. omega arith)) (count_beside base 0 1 (λ z. omega arith) (λ z. omega arith)) in
