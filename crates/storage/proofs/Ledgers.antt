@@ -1,8 +1,9 @@
 -- One more operation, and one more answer.
-use Rattle.std.proofs.Common.{◌≡◌, ℕ, ◌+◌, ◌<◌, Bool, false, ltb, List, [], ◌∷◌, ◌++◌, length, get_or, take, set, sym, refl, ap, ◌∙◌, inl, inr, arith, length-append, length-set, below_more}
-use Rattle.std.proofs.lemmas.List.{get_or-set_same, get_or-set_other, length-take-le, take_all, take-append-le}
+use Rattle.std.proofs.Common.{◌≡◌, ℕ, ◌+◌, ◌<◌, Bool, false, ltb, List, [], length, get_or, take, set, sym, refl, ap, ◌∙◌, arith, length-set, below_more}
+use Rattle.std.proofs.lemmas.List.{get_or-set_same, get_or-set_other, take_all}
 use Rattle.std.proofs.lemmas.List.Sums.{fold_more}
-use Rattle.std.proofs.lemmas.Bool.{cases_lt, cond-true, cond-false, lt-ltb, le-ltb}
+use Rattle.std.proofs.lemmas.Bool.{cases_lt}
+use Rattle.std.proofs.lemmas.Grind.{common_steps}
 use Rattle.bytecode.specs.declared.instruction.Word.{Word}
 use Rattle.storage.specs.declared.Operation.{Operation}
 use Rattle.storage.specs.declared.Operation.TheVariants.{Append, Clear}
@@ -10,21 +11,10 @@ use Rattle.storage.specs.Ledger.{performed, done, noted, ledger, ToldBelow}
 
 -- what there is room for leaves as much room as all that was asked for
 room_alike : (room : ℕ) (xs : List Word) → ltb (length (take room xs)) room ≡ ltb (length xs) room
-room_alike room xs =
-    elim (cases_lt (length xs) room) [
-      | inl l ↦ ap (λ ys. ltb (length ys) room) (take_all room xs (omega arith))
-      | inr l ↦ le-ltb _ _ (let n = length-take-le room xs l in omega arith) ∙ sym (le-ltb _ _ l)
-    ]
+room_alike room xs = grind (arith, common_steps, cases_lt (length xs) room)
 
 kept : (room : ℕ) (xs : List Word) (operation : Operation) → performed room (take room xs) operation ≡ take room (noted xs operation)
-kept room xs (Append w) =
-    elim (cases_lt (length xs) room) [
-      | inl l ↦
-          let all : take room (xs ++ w ∷ []) ≡ xs ++ w ∷ [] = take_all room (xs ++ w ∷ []) (simp length-append (omega arith)) in
-          cond-true _ (take room xs ++ w ∷ []) (take room xs) (room_alike room xs ∙ lt-ltb _ _ l) ∙ (ap (λ ys. ys ++ w ∷ []) (take_all room xs (omega arith)) ∙ sym all)
-      | inr l ↦
-          cond-false _ (take room xs ++ w ∷ []) (take room xs) (room_alike room xs ∙ le-ltb _ _ l) ∙ sym (take-append-le room xs (w ∷ []) l)
-    ]
+kept room xs (Append w) = grind (arith, common_steps, room_alike room xs, cases_lt (length xs) room)
 kept room xs Clear = sym (take_all room [] (omega arith))
 
 done_alike : (room : ℕ) (xs : List Word) (operation : Operation) → done room (take room xs) operation ≡ done room xs operation
