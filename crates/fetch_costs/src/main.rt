@@ -12,17 +12,14 @@ use std::env;
 fn fill<M: CodeMemory>(memory: &mut M) {
     memory.clear();
     for i in 0..315u16 {
-        let word = Word {
-            opcode: (i / 256) as u8,
-            sign: (i % 256) as u8,
-            value: 7,
-        };
-        let _ = memory.append(word);
+        let [high, low] = i.to_be_bytes();
+        let _ = memory.append(Word::from([high, low, 7]));
     }
 }
 
-// Reads all words forward that many times, and adds their bytes up.
+// Fills the memory, reads all words forward that many times, and adds their bytes up.
 fn sum<M: CodeMemory>(memory: &mut M, rounds: u32) -> u64 {
+    fill(memory);
     let mut all: u64 = 0;
     for _ in 0..rounds {
         for place in 0..315 {
@@ -34,40 +31,28 @@ fn sum<M: CodeMemory>(memory: &mut M, rounds: u32) -> u64 {
     all
 }
 
-fn flat(rounds: u32) -> u64 {
-    let mut bytes = [0; 945];
-    let mut memory = Flat::new(&mut bytes);
-    fill(&mut memory);
-    sum(&mut memory, rounds)
-}
-
-fn chained(rounds: u32) -> u64 {
-    let mut memory = RecordMemory::new();
-    fill(&mut memory);
-    sum(&mut memory, rounds)
-}
-
 // The sums of one memory, or of both.
 fn show(rt: &HostRuntime, name: &str, rounds: u32) -> anyhow::Result<()> {
     if name != "records" {
-        println!(rt; "flat {}", flat(rounds))?;
+        let mut bytes = [0; 945];
+        println!(rt; "flat {}", sum(&mut Flat::new(&mut bytes), rounds))?;
     }
     if name != "flat" {
-        println!(rt; "records {}", chained(rounds))?;
+        println!(rt; "records {}", sum(&mut RecordMemory::new(), rounds))?;
     }
     Ok(())
 }
 
 fn main(rt: HostRuntime) -> anyhow::Result<()> {
-    let mut args = env::args(&rt)?;
-    let _ = args.next();
-    let which = args.next();
+    let mut args = env::args(&rt)?.skip(1);
+    let name = args.next();
     let rounds = match args.next() {
         Some(text) => text.as_str().parse::<u32>()?,
         None => 1,
     };
-    match which {
-        Some(name) => show(&rt, name.as_str(), rounds),
-        None => show(&rt, "both", rounds),
-    }
+    show(
+        &rt,
+        name.as_ref().map_or("both", |name| name.as_str()),
+        rounds,
+    )
 }

@@ -1,10 +1,10 @@
 -- A word in bytes, written and read.
-use Rattle.std.proofs.Common.{◌≡◌, ℕ, zero, suc, ◌+◌, ◌-◌, ◌*◌, ◌<◌, ◌≤◌, ◌≢◌, List, [], ◌∷◌, map, length, get_or, take, drop, set, refl, ap, ◌∙◌, arith, length-set, get_or-take, get_or-drop}
+use Rattle.std.proofs.Common.{◌≡◌, ℕ, zero, suc, ◌+◌, ◌-◌, ◌*◌, ◌<◌, ◌≤◌, ◌≢◌, List, [], ◌∷◌, map, length, get_or, take, drop, set, refl, ap, ◌∙◌, arith, get_or-take, get_or-drop}
 use Rattle.std.specs.List.{range_with_len}
 use Rattle.std.specs.Simd.{first_chunks}
 use borrow.Rule.Slice.PartMut.{put_mid}
 use Rattle.std.proofs.lemmas.List.FromFn.{length-map-range_with_len, get_or-map-range_with_len, fill_by_all}
-use Rattle.std.proofs.lemmas.List.{get_or-set_same, get_or-set_other}
+use Rattle.std.proofs.lemmas.Grind.{common_steps}
 use Rattle.bytecode.specs.declared.instruction.Word.{Word}
 use Rattle.bytecode.specs.Words.{word, bytes_of}
 use Rattle.memory.specs.Bytes.{word_at, put}
@@ -35,20 +35,11 @@ part_word bytes a n j t l is =
 pub beside :
     (bytes : List ℕ) (a x b y c z j : ℕ) →
     j ≢ a → j ≢ b → j ≢ c → get_or (set (set (set bytes a x) b y) c z) j 0 ≡ get_or bytes j 0
-beside bytes a x b y c z j p q r =
-    get_or-set_other (set (set bytes a x) b y) c j z 0 r ∙ (get_or-set_other (set bytes a x) b j y 0 q ∙ get_or-set_other bytes a j x 0 p)
+beside bytes a x b y c z j p q r = grind (arith, common_steps)
 
 -- a word that is put is read back
 pub put_back : (bytes : List ℕ) (at : ℕ) (w : Word) → at + 2 < length bytes → word_at (put bytes at w) at ≡ w
-put_back bytes at w l =
-    let one = set bytes at w.opcode in
-    let two = set one (at + 1) w.sign in
-    let size_one : length one ≡ length bytes = simp length-set in
-    let size_two : length two ≡ length bytes = simp length-set in
-    let a : get_or (put bytes at w) at 0 ≡ w.opcode = get_or-set_other two (at + 2) at w.value 0 (λ e. omega arith) ∙ (get_or-set_other one (at + 1) at w.sign 0 (λ e. omega arith) ∙ get_or-set_same bytes at w.opcode 0 (omega arith)) in
-    let b : get_or (put bytes at w) (at + 1) 0 ≡ w.sign = get_or-set_other two (at + 2) (at + 1) w.value 0 (λ e. omega arith) ∙ get_or-set_same one (at + 1) w.sign 0 (omega arith) in
-    let c : get_or (put bytes at w) (at + 2) 0 ≡ w.value = get_or-set_same two (at + 2) w.value 0 (omega arith) in
-    same_word _ _ a b c
+put_back bytes at w l = same_word _ _ (grind (arith, common_steps)) (grind (arith, common_steps)) (grind (arith, common_steps))
 
 -- a byte of a chunk of three
 chunk_byte : (bytes : List ℕ) (n i k : ℕ) → i < n → k < 3 → get_or (get_or (first_chunks 3 n bytes) i []) k 0 ≡ get_or bytes (3 * i + k) 0

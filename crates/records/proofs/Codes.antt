@@ -1,11 +1,11 @@
 -- What a write does to the words.
-use Rattle.std.proofs.Common.{◌≡◌, ℕ, ◌+◌, ◌*◌, ◌/◌, ◌%◌, ◌<◌, ◌≤◌, ◌≢◌, List, [], ◌∷◌, ◌++◌, map, length, get_or, set, sym, refl, ap, ◌∙◌, inl, inr, arith, length-set}
+use Rattle.std.proofs.Common.{◌≡◌, ℕ, ◌+◌, ◌*◌, ◌/◌, ◌%◌, ◌<◌, ◌≤◌, ◌≢◌, List, [], ◌∷◌, ◌++◌, map, length, get_or, sym, refl, ap, ◌∙◌, inl, inr, arith, length-set}
 use mathlib.Core.List.{is_set}
 use base.Stored.{gnum, gcons, Coded, Coded-set}
 use Rattle.std.specs.List.{range_with_len}
 use Rattle.std.proofs.lemmas.List.FromFn.{map-range_with_len_more}
-use Rattle.std.proofs.lemmas.List.{get_or-set_same, get_or-set_other}
 use Rattle.std.proofs.lemmas.Bool.{cases_eq}
+use Rattle.std.proofs.lemmas.Grind.{common_steps}
 use Rattle.bytecode.specs.declared.instruction.Word.{Word}
 use Rattle.records.specs.Layout.{count, reached, spot, code_at, code, Linked}
 use Rattle.memory.specs.Bytes.{word_at, put}
@@ -23,15 +23,10 @@ words_set = is_set (Coded-set word_coded)
 
 -- the count's two bytes
 pub count_beside : (bytes : List ℕ) (n j : ℕ) → j ≢ 2 → j ≢ 3 → get_or (recounted bytes n) j 0 ≡ get_or bytes j 0
-count_beside bytes n j p q = get_or-set_other (set bytes 2 (n / 256)) 3 j (n % 256) 0 q ∙ get_or-set_other bytes 2 j (n / 256) 0 p
+count_beside bytes n j p q = grind (arith, common_steps)
 
 pub count_back : (bytes : List ℕ) (n : ℕ) → length bytes ≡ 1024 → count (recounted bytes n) ≡ n
-count_back bytes n size =
-    let one = set bytes 2 (n / 256) in
-    let size_one : length one ≡ 1024 = simp length-set size in
-    let a : get_or (recounted bytes n) 2 0 ≡ n / 256 = get_or-set_other one 3 2 (n % 256) 0 (λ e. omega arith) ∙ get_or-set_same bytes 2 (n / 256) 0 (omega arith) in
-    let b : get_or (recounted bytes n) 3 0 ≡ n % 256 = get_or-set_same one 3 (n % 256) 0 (omega arith) in
-    omega arith
+count_back bytes n size = grind (arith, common_steps)
 
 -- a byte outside the word and the count
 fill_beside :

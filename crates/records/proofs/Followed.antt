@@ -1,12 +1,13 @@
 -- The chains that a reader follows are the two parts of the list of records.
-use Rattle.std.proofs.Common.{◌≡◌, ℕ, zero, suc, ◌+◌, ◌-◌, ◌<◌, ◌≤◌, cond, eqb, ◌≢◌, List, [], ◌∷◌, ◌++◌, map, length, sym, refl, ap, ◌∙◌, inl, inr, arith}
+use Rattle.std.proofs.Common.{◌≡◌, ℕ, zero, suc, ◌+◌, ◌-◌, ◌<◌, ◌≤◌, ◌≢◌, List, [], ◌∷◌, ◌++◌, map, length, sym, refl, ap, ◌∙◌, inl, inr, arith}
 use mathlib.Core.List.{is_set}
 use mathlib.Core.Logic.{∥∥₁_elim}
 use native.Mathlib.Nat.{ℕ_set}
 use Rattle.std.specs.List.{range_with_len}
 use Rattle.std.proofs.lemmas.List.FromFn.{length-map-range_with_len}
 use Rattle.std.proofs.lemmas.List.{map-append}
-use Rattle.std.proofs.lemmas.Bool.{cases_eq, cases_lt, cond-true, cond-false, eq-eqb, ne_eqb, le-ltb}
+use Rattle.std.proofs.lemmas.Bool.Decides.{nat_tests}
+use Rattle.std.proofs.lemmas.Bool.{cases_eq, cases_lt, cond-false, le-ltb}
 use Rattle.records.specs.Layout.{next, count, Linked, Formed}
 use Rattle.records.specs.Writes.{cleared_in}
 use Rattle.records.specs.Chains.{chain, rule_chain, free_chain, times_in, Sound, AppendMoves, ClearMoves}
@@ -23,10 +24,10 @@ counting_parts a (suc m) k =
 
 module _ {bytes : List ℕ} {n : ℕ} {order place : ℕ → ℕ} (h : Linked bytes n order place) where
   goes_on : (most r : ℕ) → r ≢ 0 → chain bytes (suc most) r ≡ r ∷ chain bytes most (next bytes r)
-  goes_on most r ne = cond-false _ [] (r ∷ chain bytes most (next bytes r)) (ne_eqb r 0 ne)
+  goes_on most r ne = grind (arith, nat_tests)
 
   stops : (most r : ℕ) → r ≡ 0 → chain bytes (suc most) r ≡ []
-  stops most r e = cond-true _ [] (r ∷ chain bytes most (next bytes r)) (eq-eqb r 0 e)
+  stops most r e = grind (arith, nat_tests)
 
   -- behind the i-th record stand the k that are left of the rule's
   rule_from : (k i most : ℕ) → i + k ≡ n → k < most → chain bytes most (next bytes (order i)) ≡ map order (range_with_len (i + 1) k)
@@ -70,9 +71,8 @@ module _ {bytes : List ℕ} {n : ℕ} {order place : ℕ → ℕ} (h : Linked by
   never_in r l a zero t p = refl
   never_in r l a (suc k) t p =
       let ne : order a ≢ r = λ e. (let q : a ≡ place r = sym (h.found a (omega arith)) ∙ ap place e in omega arith) in
-      let z : cond {A = ℕ} (eqb (order a) r) 1 0 ≡ 0 = cond-false (eqb (order a) r) 1 0 (ne_eqb _ _ ne) in
       let rest = never_in r l (a + 1) k (omega arith) (omega arith) in
-      omega arith
+      grind (arith, nat_tests)
 
   once_in :
       (r : ℕ) → r < 64 → (a k : ℕ) → a + k ≤ 64 → a ≤ place r → place r < a + k → times_in r (map order (range_with_len a k)) ≡ 1
@@ -81,14 +81,12 @@ module _ {bytes : List ℕ} {n : ℕ} {order place : ℕ → ℕ} (h : Linked by
       elim (cases_eq (place r) a) [
         | inl e ↦
             let is : order a ≡ r = ap order (sym e) ∙ (h.every r l).1 in
-            let z : cond {A = ℕ} (eqb (order a) r) 1 0 ≡ 1 = cond-true (eqb (order a) r) 1 0 (eq-eqb _ _ is) in
             let rest = never_in r l (a + 1) k (omega arith) (omega arith) in
-            omega arith
+            grind (arith, nat_tests)
         | inr u ↦
             let ne : order a ≢ r = λ e. u (sym (sym (h.found a (omega arith)) ∙ ap place e)) in
-            let z : cond {A = ℕ} (eqb (order a) r) 1 0 ≡ 0 = cond-false (eqb (order a) r) 1 0 (ne_eqb _ _ ne) in
             let rest = once_in r l (a + 1) k (omega arith) (omega arith) (omega arith) in
-            omega arith
+            grind (arith, nat_tests)
       ]
 
   once_in_chains : (r : ℕ) → 0 < r → r < 64 → times_in r (rule_chain bytes ++ free_chain bytes) ≡ 1

@@ -1,8 +1,7 @@
 -- The list of the records stays as it is under every write; only the border between the rule's and the free ones moves.
-use Rattle.std.proofs.Common.{◌≡◌, ℕ, zero, suc, ◌+◌, ◌*◌, ◌<◌, ◌≤◌, ◌≢◌, List, length, get_or, set, sym, ap, ◌∙◌, inl, inr, add-one, arith, length-set}
-use Rattle.std.proofs.lemmas.List.{get_or-set_same, get_or-set_other}
+use Rattle.std.proofs.Common.{◌≡◌, ℕ, zero, suc, ◌+◌, ◌*◌, ◌<◌, ◌≤◌, ◌≢◌, List, length, get_or, sym, ap, ◌∙◌, inl, inr, add-one, arith, length-set}
 use Rattle.std.proofs.lemmas.Bool.{cases_eq, cases_lt}
-use Rattle.memory.proofs.Bytes.{beside}
+use Rattle.std.proofs.lemmas.Grind.{common_steps}
 use Rattle.records.specs.Layout.{next, first_free, reached, Linked}
 use Rattle.records.specs.Writes.{taken, joined}
 
@@ -58,14 +57,9 @@ takes {bytes} {n} {order} {place} h l =
     let last_in : last < 64 = h.within n (omega arith) in
     let fresh_in : fresh < 64 = h.within (n + 1) (omega arith) in
     let two_records : last ≢ fresh = differ h n (n + 1) (omega arith) (omega arith) (λ e. omega arith) in
-    let one = set bytes 1 (next bytes fresh) in
-    let two = set one (16 * last) fresh in
-    let size_one : length one ≡ 1024 = simp length-set size in
-    let size_two : length two ≡ 1024 = simp length-set size in
     record {
       size = simp length-set size;
-      rest = λ k p q.
-          beside bytes 1 (next bytes fresh) (16 * last) fresh (16 * fresh) 0 k (λ e. omega arith) (inside last 0 k (omega arith) (omega arith)) (inside fresh 0 k (omega arith) (omega arith)) ∙ h.rest k p q;
+      rest = λ k p q. grind (arith, common_steps, h.rest k p q);
       border = omega arith;
       head = h.head;
       tail = h.tail;
@@ -74,17 +68,12 @@ takes {bytes} {n} {order} {place} h l =
       every = h.every;
       links = λ i p q.
           elim (cases_eq i n) [
-            | inl e ↦
-                let off : 16 * order i ≢ 16 * fresh = λ z. two_records (sym (ap order e) ∙ omega arith) in
-                get_or-set_other two (16 * fresh) (16 * order i) 0 0 off ∙ (ap (λ k. get_or two (16 * order k) 0) e ∙ (get_or-set_same one (16 * last) fresh 0 (omega arith) ∙ ap (λ k. order (k + 1)) (sym e)))
+            | inl e ↦ let same = ap order e in let next_same = ap (λ k. order (k + 1)) e in grind (arith, common_steps)
             | inr u ↦
-                let a = differ h i n p (omega arith) u in
-                let b = differ h i (n + 1) p (omega arith) q in
-                beside bytes 1 (next bytes fresh) (16 * last) fresh (16 * fresh) 0 (16 * order i) (λ e. omega arith) (λ e. a (omega arith)) (λ e. b (omega arith)) ∙ h.links i p u
+                let a = differ h i n p (omega arith) u in let b = differ h i (n + 1) p (omega arith) q in grind (arith, common_steps, h.links i p u)
           ];
-      ends = get_or-set_same two (16 * fresh) 0 0 (omega arith);
-      free =
-          get_or-set_other two (16 * fresh) 1 0 0 (λ e. omega arith) ∙ (get_or-set_other one (16 * last) 1 fresh 0 (λ e. omega arith) ∙ (get_or-set_same bytes 1 (next bytes fresh) 0 (omega arith) ∙ h.links (n + 1) (omega arith) (λ e. omega arith)));
+      ends = grind (arith, common_steps);
+      free = grind (arith, common_steps, h.links (n + 1) (omega arith) (λ e. omega arith));
     }
 
 -- Joining the chains moves the border back to record 0.
@@ -97,14 +86,9 @@ joins {bytes} {n} {order} {place} h l =
     let last = order n in
     let last_in : last < 64 = h.within n border in
     let some : last ≢ 0 = not_head h n l border in
-    let one = set bytes (16 * last) (first_free bytes) in
-    let two = set one 1 (next bytes 0) in
-    let size_one : length one ≡ 1024 = simp length-set size in
-    let size_two : length two ≡ 1024 = simp length-set size in
     record {
       size = simp length-set size;
-      rest = λ k p q.
-          beside bytes (16 * last) (first_free bytes) 1 (next bytes 0) 0 0 k (inside last 0 k (omega arith) (omega arith)) (λ e. omega arith) (λ e. omega arith) ∙ h.rest k p q;
+      rest = λ k p q. grind (arith, common_steps, h.rest k p q);
       border = omega arith;
       head = h.head;
       tail = h.tail;
@@ -114,13 +98,9 @@ joins {bytes} {n} {order} {place} h l =
       links = λ i p q.
           let off = not_head h i (omega arith) p in
           elim (cases_eq i n) [
-            | inl e ↦
-                get_or-set_other two 0 (16 * order i) 0 0 (λ z. off (omega arith)) ∙ (get_or-set_other one 1 (16 * order i) (next bytes 0) 0 (λ z. omega arith) ∙ (ap (λ k. get_or one (16 * order k) 0) e ∙ (get_or-set_same bytes (16 * last) (first_free bytes) 0 (omega arith) ∙ (h.free ∙ ap (λ k. order (k + 1)) (sym e)))))
-            | inr u ↦
-                let a = differ h i n p border u in
-                beside bytes (16 * last) (first_free bytes) 1 (next bytes 0) 0 0 (16 * order i) (λ e. a (omega arith)) (λ e. omega arith) (λ e. off (omega arith)) ∙ h.links i p u
+            | inl e ↦ let same = ap order e in let next_same = ap (λ k. order (k + 1)) e in grind (arith, common_steps, h.free)
+            | inr u ↦ let a = differ h i n p border u in grind (arith, common_steps, h.links i p u)
           ];
-      ends = ap (next (joined bytes last)) h.head ∙ get_or-set_same two 0 0 0 (omega arith);
-      free =
-          get_or-set_other two 0 1 0 0 (λ e. omega arith) ∙ (get_or-set_same one 1 (next bytes 0) 0 (omega arith) ∙ (ap (next bytes) (sym h.head) ∙ h.links 0 (omega arith) (λ e. omega arith)));
+      ends = grind (arith, common_steps, h.head);
+      free = grind (arith, common_steps, h.head, h.links 0 (omega arith) (λ e. omega arith));
     }

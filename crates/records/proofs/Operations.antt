@@ -1,12 +1,13 @@
 -- Appending, clearing and reading, on the bytes of a memory.
-use Rattle.std.proofs.Common.{◌≡◌, ℕ, ◌+◌, ◌-◌, ◌*◌, ◌/◌, ◌%◌, ◌<◌, ◌≤◌, true, eqb, ltb, List, [], ◌∷◌, ◌++◌, map, length, get_or, Some, None, Ok, Err, sym, refl, ap, ◌∙◌, subst, inl, inr, add-one, arith, length-set, length-take, length-drop}
+use Rattle.std.proofs.Common.{◌≡◌, ℕ, ◌+◌, ◌-◌, ◌*◌, ◌/◌, ◌%◌, ◌<◌, ◌≤◌, true, ltb, List, [], ◌∷◌, ◌++◌, map, length, get_or, Some, None, Ok, Err, sym, refl, ap, ◌∙◌, subst, inl, inr, add-one, arith, length-set, length-take, length-drop}
 use mathlib.Core.Logic.{∥∥₁_elim, ∥∥₁_map}
 use native.Mathlib.Bridge.{le_prop}
 use native.Mathlib.Nat.{ℕ_set}
 use Rattle.std.specs.List.{slice_get, range_with_len}
 use Rattle.std.proofs.lemmas.List.FromFn.{length-map-range_with_len, get_or-map-range_with_len}
 use Rattle.std.proofs.lemmas.Option.{slice_get-get_or, slice_get_past}
-use Rattle.std.proofs.lemmas.Bool.{cases_eq, cond-true, cond-false, eq-eqb, ne_eqb, lt-ltb, le-ltb}
+use Rattle.std.proofs.lemmas.Bool.Decides.{nat_tests}
+use Rattle.std.proofs.lemmas.Bool.{cases_eq, cond-true, lt-ltb}
 use Rattle.bytecode.specs.declared.instruction.Word.{Word}
 use Rattle.std.specs.Simd.{first_chunks}
 use borrow.Rule.Slice.PartMut.{mid_of}
@@ -15,8 +16,8 @@ use Rattle.refusal.specs.declared.Refusal.TheVariants.{MemoryFull}
 use Rattle.memory.specs.Bytes.{word_at}
 use Rattle.memory.proofs.Bytes.{alike, beside, part_word, copied_put, chunk_word}
 use Rattle.records.specs.Layout.{next, first_free, count, records_for, reached, spot, code_at, code, Linked, Formed}
-use Rattle.records.specs.Writes.{recounted, filled, taken, opened, added, last_after, appended_in, joined, emptied, cleared_in}
-use Rattle.records.specs.Steps.{Stands, Stays, Appends, Clears, index_after}
+use Rattle.records.specs.Writes.{recounted, filled, taken, added, last_after, appended_in, joined, emptied, cleared_in}
+use Rattle.records.specs.Steps.{Stands, Stays, Appends, Clears}
 use Rattle.records.proofs.Links.{reached_order, same_links, inside, takes, joins}
 use Rattle.records.proofs.Codes.{words_set, count_beside, count_back, fill_count, same_code_at, fills, fill_code}
 
@@ -74,12 +75,6 @@ code_there bytes place r x size l within e is =
     let p = slice_get-get_or (code bytes) place x (rw length_code l) in
     let q = get_or-map-range_with_len (code_at bytes) 0 (count bytes) place place x l (omega arith) in
     ap (λ y. Some y) s ∙ (sym (ap (λ y. Some y) q) ∙ sym p)
-
-pub index_there : (bytes : List ℕ) (index place : ℕ) → place < count bytes → place / 5 + 1 ≡ index_after bytes index place
-index_there bytes index place l = sym (cond-true (ltb place (count bytes)) (place / 5 + 1) index (lt-ltb _ _ l))
-
-pub index_past : (bytes : List ℕ) (index place : ℕ) → count bytes ≤ place → index ≡ index_after bytes index place
-index_past bytes index place l = sym (cond-false (ltb place (count bytes)) (place / 5 + 1) index (le-ltb _ _ l))
 
 -- Appending.
 
@@ -145,18 +140,14 @@ grows bytes f w last less e =
     let is : last ≡ order n = e ∙ reached_order h n (omega arith) in
     elim (cases_eq (c % 5) 0) [
       | inl z ↦
-          let t = eq-eqb (c % 5) 0 z in
           let made = filled (taken bytes (order n) (order (n + 1))) (order (n + 1)) 0 w (c + 1) in
-          let b : last_after bytes last ≡ order (n + 1) = cond-true (eqb (c % 5) 0) (first_free bytes) last t ∙ h.free in
-          let o : opened bytes last ≡ taken bytes (order n) (order (n + 1)) = cond-true (eqb (c % 5) 0) _ bytes t ∙ (ap (λ r. taken bytes r (first_free bytes)) is ∙ ap (taken bytes (order n)) h.free) in
-          let a : added bytes last w ≡ made = ap (λ bs. filled bs (last_after bytes last) (c % 5) w (c + 1)) o ∙ (ap (λ r. filled (taken bytes (order n) (order (n + 1))) r (c % 5) w (c + 1)) b ∙ ap (λ k. filled (taken bytes (order n) (order (n + 1))) (order (n + 1)) k w (c + 1)) z) in
+          let a : added bytes last w ≡ made = grind (arith, nat_tests, h.free) in
+          let b : last_after bytes last ≡ order (n + 1) = grind (arith, nat_tests, h.free) in
           subst (λ bs. Grows bytes f w bs (last_after bytes last)) (sym a) (subst (λ r. Grows bytes f w made r) (sym b) (grows_full bytes f w z less))
       | inr u ↦
-          let t = ne_eqb (c % 5) 0 u in
           let made = filled bytes (order n) (c % 5) w (c + 1) in
-          let b : last_after bytes last ≡ order n = cond-false (eqb (c % 5) 0) (first_free bytes) last t ∙ is in
-          let o : opened bytes last ≡ bytes = cond-false (eqb (c % 5) 0) _ bytes t in
-          let a : added bytes last w ≡ made = ap (λ bs. filled bs (last_after bytes last) (c % 5) w (c + 1)) o ∙ ap (λ r. filled bytes r (c % 5) w (c + 1)) b in
+          let a : added bytes last w ≡ made = grind (arith, nat_tests) in
+          let b : last_after bytes last ≡ order n = grind (arith, nat_tests) in
           subst (λ bs. Grows bytes f w bs (last_after bytes last)) (sym a) (subst (λ r. Grows bytes f w made r) (sym b) (grows_open bytes f w u))
     ]
 
@@ -247,12 +238,12 @@ empties bytes f last e =
     let order = f.0 in
     elim (cases_eq c 0) [
       | inl z ↦
-          let a : emptied bytes last ≡ bytes = cond-true _ _ _ (eq-eqb c 0 z) in
+          let a : emptied bytes last ≡ bytes = grind (arith, nat_tests) in
           subst (λ bs. Empties bytes f bs) (sym a) (record { none = z; linked = subst (λ k. Linked bytes k order f.1.0) (ap records_for z) h })
       | inr u ↦
           let is : last ≡ order n = e ∙ reached_order h n (omega arith) in
           let base = joined bytes (order n) in
-          let a : emptied bytes last ≡ recounted base 0 = cond-false _ _ _ (ne_eqb c 0 u) ∙ ap (λ r. recounted (joined bytes r) 0) is in
+          let a : emptied bytes last ≡ recounted base 0 = grind (arith, nat_tests) in
           let g = joins h (omega arith) in
           let size = h.size in
           let k : Linked (recounted base 0) 0 order f.1.0 = same_links g (recounted base 0) (simp length-set size) (λ j p q. count_beside base 0 j (λ z. omega arith) (λ z. omega arith)) (λ r l. count_beside base 0 (16 * r) (λ z. omega arith) (λ z. omega arith)) (count_beside base 0 1 (λ z. omega arith) (λ z. omega arith)) in

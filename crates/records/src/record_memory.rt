@@ -49,7 +49,8 @@ impl RecordMemory {
         &self.bytes
     }
 
-    // The record to which `index` links lead from record 0, found by going on from a cursor.
+    // The record to which `index` links lead from record 0, found by going on from a cursor. A loop, since the closure of
+    // a `fold` would need a condition of its own.
     fn walk(&self, from: Cursor, index: usize) -> usize
         requires before { from.index ≤ index }
         requires within { index ≤ records_for (count self.now.bytes) }

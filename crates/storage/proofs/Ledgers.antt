@@ -1,8 +1,9 @@
 -- One more operation, and one more answer.
-use Rattle.std.proofs.Common.{◌≡◌, ℕ, ◌+◌, ◌<◌, Bool, false, ltb, List, [], ◌∷◌, ◌++◌, length, get_or, take, set, sym, refl, ap, ◌∙◌, inl, inr, arith, length-append, length-set, below_more}
-use Rattle.std.proofs.lemmas.List.{get_or-set_same, get_or-set_other, length-take-le, take_all, take-append-le}
+use Rattle.std.proofs.Common.{◌≡◌, ℕ, ◌+◌, ◌<◌, Bool, false, ltb, List, [], length, get_or, take, set, sym, refl, ap, arith, length-set, below_more}
+use Rattle.std.proofs.lemmas.List.{take_all}
 use Rattle.std.proofs.lemmas.List.Sums.{fold_more}
-use Rattle.std.proofs.lemmas.Bool.{cases_lt, cond-true, cond-false, lt-ltb, le-ltb}
+use Rattle.std.proofs.lemmas.Bool.{cases_lt}
+use Rattle.std.proofs.lemmas.Grind.{common_steps}
 use Rattle.bytecode.specs.declared.instruction.Word.{Word}
 use Rattle.storage.specs.declared.Operation.{Operation}
 use Rattle.storage.specs.declared.Operation.TheVariants.{Append, Clear}
@@ -10,21 +11,10 @@ use Rattle.storage.specs.Ledger.{performed, done, noted, ledger, ToldBelow}
 
 -- what there is room for leaves as much room as all that was asked for
 room_alike : (room : ℕ) (xs : List Word) → ltb (length (take room xs)) room ≡ ltb (length xs) room
-room_alike room xs =
-    elim (cases_lt (length xs) room) [
-      | inl l ↦ ap (λ ys. ltb (length ys) room) (take_all room xs (omega arith))
-      | inr l ↦ le-ltb _ _ (let n = length-take-le room xs l in omega arith) ∙ sym (le-ltb _ _ l)
-    ]
+room_alike room xs = grind (arith, common_steps, cases_lt (length xs) room)
 
 kept : (room : ℕ) (xs : List Word) (operation : Operation) → performed room (take room xs) operation ≡ take room (noted xs operation)
-kept room xs (Append w) =
-    elim (cases_lt (length xs) room) [
-      | inl l ↦
-          let all : take room (xs ++ w ∷ []) ≡ xs ++ w ∷ [] = take_all room (xs ++ w ∷ []) (simp length-append (omega arith)) in
-          cond-true _ (take room xs ++ w ∷ []) (take room xs) (room_alike room xs ∙ lt-ltb _ _ l) ∙ (ap (λ ys. ys ++ w ∷ []) (take_all room xs (omega arith)) ∙ sym all)
-      | inr l ↦
-          cond-false _ (take room xs ++ w ∷ []) (take room xs) (room_alike room xs ∙ le-ltb _ _ l) ∙ sym (take-append-le room xs (w ∷ []) l)
-    ]
+kept room xs (Append w) = grind (arith, common_steps, room_alike room xs, cases_lt (length xs) room)
 kept room xs Clear = sym (take_all room [] (omega arith))
 
 done_alike : (room : ℕ) (xs : List Word) (operation : Operation) → done room (take room xs) operation ≡ done room xs operation
@@ -37,14 +27,11 @@ module _ (room : ℕ) (operations : List Operation) (i : ℕ) (within : i < leng
     (lists : before ≡ take room (ledger (take i operations))) where
   pub one_more : (after : List Word) → after ≡ performed room' before operation → after ≡ take room (ledger (take (i + 1) operations))
   one_more after e =
-      let so_far = ledger (take i operations) in
-      e ∙ (ap (λ n. performed n before operation) same ∙ (ap (λ xs. performed room xs operation) lists ∙ (kept room so_far operation ∙ (ap (λ o. take room (noted so_far o)) is ∙ sym (ap (take room) (fold_more noted [] operations i Clear within))))))
+      grind (arith, common_steps, kept room (ledger (take i operations)) operation, fold_more noted [] operations i Clear within)
 
   told_here :
       (answer : Bool) → answer ≡ done room' before operation → answer ≡ done room (ledger (take i operations)) (get_or operations i Clear)
-  told_here answer e =
-      let so_far = ledger (take i operations) in
-      e ∙ (ap (λ n. done n before operation) same ∙ (ap (λ xs. done room xs operation) lists ∙ (done_alike room so_far operation ∙ ap (done room so_far) is)))
+  told_here answer e = grind (arith, common_steps, done_alike room (ledger (take i operations)) operation)
 
   pub told_more :
       (answers after : List Bool) (answer : Bool) →
@@ -52,9 +39,5 @@ module _ (room : ℕ) (operations : List Operation) (i : ℕ) (within : i < leng
       after ≡ set answers i answer → ToldBelow room operations answers i → ToldBelow room operations after (i + 1)
   told_more answers after answer e put below =
       below_more (λ k. k < length after → get_or after k false ≡ done room (ledger (take k operations)) (get_or operations k Clear)) i
-      (λ k lt fits.
-      let l : k < length answers = omega (arith, ap length put, length-set answers i answer) in
-      ap (λ ys. get_or ys k false) put ∙ (get_or-set_other answers i k answer false (λ z. omega arith) ∙ below k lt l))
-      (λ fits.
-      let l : i < length answers = omega (arith, ap length put, length-set answers i answer) in
-      ap (λ ys. get_or ys i false) put ∙ (get_or-set_same answers i answer false l ∙ told_here answer e))
+      (λ k lt fits. let so_far = below k lt (omega (arith, ap length put, length-set answers i answer)) in grind (arith, common_steps))
+      (λ fits. let here = told_here answer e in grind (arith, common_steps))

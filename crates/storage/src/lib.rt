@@ -44,21 +44,6 @@ fn write_answer(answers: &mut [bool], i: usize, answer: bool)
     }
 }
 
-// Performs the operations on an empty memory. The answers are the caller's and may be fewer, so none is taken with its
-// operation by `zip`.
-fn perform_all<M: CodeMemory>(memory: &mut M, operations: &[Operation], answers: &mut [bool])
-    requires { M.CodeMemory.listed memory.old ≡ [] }
-    ensures same { M.CodeMemory.room memory.new ≡ M.CodeMemory.room memory.old }
-    ensures after { M.CodeMemory.listed memory.new ≡ take (M.CodeMemory.room memory.old) (ledger operations.now) }
-    ensures told { Told (M.CodeMemory.room memory.old) operations.now answers.new }
-    ensures rest { drop (length operations.now) answers.new ≡ drop (length operations.now) answers.old }
-{
-    for (i, operation) in operations.iter().enumerate() {
-        let answer = perform(memory, *operation);
-        write_answer(answers, i, answer);
-    }
-}
-
 /// Empties the memory, performs the operations one after another, and writes whether each was done, as far as the
 /// answers reach. The memory then lists the words asked for since the last clear, as many as it has room for.
 pub fn operate<M: CodeMemory>(memory: &mut M, operations: &[Operation], answers: &mut [bool])
@@ -68,15 +53,18 @@ pub fn operate<M: CodeMemory>(memory: &mut M, operations: &[Operation], answers:
     ensures rest { drop (length operations.now) answers.new ≡ drop (length operations.now) answers.old }
 {
     memory.clear();
-    perform_all(memory, operations, answers);
+    // The answers may be fewer than the operations, so none is taken with its operation by `zip`.
+    for (i, operation) in operations.iter().enumerate() {
+        let answer = perform(memory, *operation);
+        write_answer(answers, i, answer);
+    }
 }
 
 /// What the memory answers at a place after it is emptied and the operations are performed.
 pub fn recall<M: CodeMemory>(memory: &mut M, operations: &[Operation], place: usize) -> Option<Word>
     ensures { result ≡ slice_get (take (M.CodeMemory.room memory.old) (ledger operations.now)) place }
 {
-    let mut none = [false; 0];
-    operate(memory, operations, &mut none);
+    operate(memory, operations, &mut []);
     memory.at(place)
 }
 

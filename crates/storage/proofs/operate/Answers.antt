@@ -1,8 +1,9 @@
-use Rattle.std.proofs.Common.{ap, drop, length, ◌∙◌}
-use Rattle.std.proofs.lemmas.List.{get_or_default, drop-set-lt}
+use Rattle.std.proofs.Common.{◌∙◌, arith}
+use Rattle.std.proofs.lemmas.List.{get_or_default}
+use Rattle.std.proofs.lemmas.Grind.{common_steps}
 use Rattle.storage.specs.declared.Operation.TheVariants.{Clear}
 use Rattle.storage.proofs.Ledgers.{one_more, told_more}
-use Rattle.storage.proofs.perform_all.Goals as goal
+use Rattle.storage.proofs.operate.Goals as goal
 
 pub loop-i-preserved : goal.loop-i-preserved
 loop-i-preserved g c =
@@ -17,5 +18,5 @@ loop-i-preserved g c =
       did.same ∙ inv.0,
       one_more room operations i lt _ is _ _ inv.0 inv.1 _ did.after,
       told_more room operations i lt _ is _ _ inv.0 inv.1 c.loop-i.answers _ _ did.answer put inv.2,
-      ap (drop (length operations)) put ∙ (drop-set-lt (length operations) c.loop-i.answers i c.perform-answer.result lt ∙ inv.3),
+      grind (arith, common_steps),
     )
