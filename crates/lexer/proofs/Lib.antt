@@ -1,3 +1,2 @@
 pub mod Runs
-pub mod Numerals
 pub mod Lexes

@@ -9,15 +9,12 @@ use bytecode::Argument;
 use language::{Operator, Prefix, TokenKind};
 
 // The number that the digits write, if it is at most 255.
-#[tactic(auto, using(crate::proofs::Numerals::value_beyond, crate::proofs::Numerals::value_done))]
 fn value(digits: &[u8]) -> Option<u8>
     ensures { result ≡ cond (nat_lt 255 (value_from 0 digits.now)) None (Some (value_from 0 digits.now)) }
 {
-    let mut n: u8 = 0;
-    for digit in digits {
-        n = n.checked_mul(10)?.checked_add(digit.saturating_sub(b'0'))?;
-    }
-    Some(n)
+    digits.iter().try_fold(0u8, |n, digit| {
+        n.checked_mul(10)?.checked_add(digit.saturating_sub(b'0'))
+    })
 }
 
 // The token that a run of digits is, behind a minus sign or not.
