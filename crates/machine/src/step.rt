@@ -62,17 +62,17 @@ fn perform<A: Arithmetic>(
     match instruction {
         Instruction::Push => processor.push(),
         Instruction::Addi => processor.merge(|top, word| A::plus(top, word)),
-        Instruction::Eqi => processor.merge(|top, word| Some(truth::<A>(A::same(top, word)))),
-        Instruction::Ori => processor.merge(|top, word| Some(either::<A>(top, word))),
+        Instruction::Eqi => processor.merge(|top, word| Ok(truth::<A>(A::same(top, word)))),
+        Instruction::Ori => processor.merge(|top, word| Ok(either::<A>(top, word))),
         Instruction::Consti(k) => processor.load(A::number(k)),
-        Instruction::Pop => processor.merge(|top, _| Some(top)),
+        Instruction::Pop => processor.merge(|top, _| Ok(top)),
         Instruction::Acc(k) => processor.peek(k),
         Instruction::Popi(k) => processor.discard(k),
         Instruction::Branch(k) => processor.branch(k),
         Instruction::Branchif(k) => branch_if::<A>(processor, k),
         Instruction::Assign(k) => processor.assign(k),
         Instruction::Multi => processor.merge(|top, word| A::times(top, word)),
-        Instruction::Leqi => processor.merge(|top, word| Some(truth::<A>(A::at_most(top, word)))),
+        Instruction::Leqi => processor.merge(|top, word| Ok(truth::<A>(A::at_most(top, word)))),
     }
 }
 
