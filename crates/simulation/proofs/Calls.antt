@@ -38,11 +38,11 @@ words_only : {W : Type 0} (ops : Ops W) (t : Tree) (a : ValueType) (w : Worth W)
 words_only {W} ops t a (word v) r (k, (le, fits, e)) f g =
     let p : ◌≡◌ {A = Finished W} (record { word = v; steps = k }) f = cc in
     ap (λ (z : Finished W). word z.word) p
-words_only ops t a (over i) r (k, (lt, few, e)) f g = let z : ◌≡◌ {A = ℕ} 0 1 = cc in absurd (omega arith)
+words_only ops t a (over i) r (k, (lt, few, e)) f g = cc
 words_only ops t a unbound r h f g = elim h [ ]
 
 refusals_only : {W : Type 0} (ops : Ops W) (t : Tree) (a : ValueType) (w : Worth W) (r : Result (Finished W) Halt) → Says ops t a w r → (h : Halt) → r ≡ Err h → (i : ℕ) × ((w ≡ over i) × (h.refusal ≡ Overflow (placed t i)))
-refusals_only ops t a (word v) r (k, (le, fits, e)) h g = let z : ◌≡◌ {A = ℕ} 0 1 = cc in absurd (omega arith)
+refusals_only ops t a (word v) r (k, (le, fits, e)) h g = cc
 refusals_only ops t a (over i) r (k, (lt, few, e)) h g =
     let p : ◌≡◌ {A = Halt} h (record { refusal = Overflow (placed t i); steps = k }) = cc in
     (i, (refl, ap (λ (z : Halt). z.refusal) p))
@@ -86,8 +86,7 @@ lawful ops means on sound =
     by true e =
         let f : means (unit ops) ≡ means (naught ops) = (sound.told (unit ops) (naught ops)).0 e in
         let g : pos 1 ≡ pos 0 = sym sound.one ∙ f ∙ sound.zero in
-        let z : ◌≡◌ {A = ℕ} 1 0 = cc in
-        absurd (omega arith)
+        cc
 
     times : (a b : Bool) → ops.times (truth ops a) (truth ops b) ≡ Some (truth ops (a && b))
     times true true = sound.ones
