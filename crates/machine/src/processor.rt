@@ -10,13 +10,15 @@ use refusal::Refusal;
 /// The machine at an instruction.
 #[derive(Drop)]
 pub struct Processor<'s, W> {
-    /// The words above the base; those up to the height are in use.
+    /// The words above the base.
     pub words: &'s mut [W],
+    /// How many of them are in use.
     pub height: usize,
     /// The accumulator.
     pub word: W,
-    /// The place of the instruction, and the place where it goes on.
+    /// The place of the instruction.
     pub place: usize,
+    /// The place where the machine goes on.
     pub next: usize,
     /// The end of the code.
     pub end: usize,
