@@ -1,5 +1,6 @@
 -- The operations of an arithmetic, on its words and on what they mean.
-use Rattle.std.specs.Prelude.{ℕ, ◌+◌, ◌-◌, ◌*◌, ◌%◌, Bool, cond, ◌&&◌, ℤ, pos, negsuc, ◌+ℤ◌, ◌*ℤ◌, neg_ℤ, Some, None, Option, ◌==◌, int_le, nat_le}
+use Rattle.std.specs.Prelude.{◌≡◌, Decides, ℕ, ◌+◌, ◌-◌, ◌*◌, ◌%◌, Bool, cond, ◌&&◌, ℤ, pos, negsuc, ◌+ℤ◌, ◌*ℤ◌, Some, None, Option, ◌==◌, int_le, nat_le}
+use Rattle.std.specs.Option.{option_map}
 use Rattle.bytecode.specs.Words.{plus, whole}
 use Rattle.bytecode.specs.declared.argument.Argument.{Argument}
 
@@ -28,6 +29,22 @@ unit ops = ops.number (plus 1)
 
 abbrev pub truth : {W : Type 0} → Ops W → Bool → W
 truth ops b = cond b (unit ops) (naught ops)
+
+-- Words mean different numbers, their operations come to those on meanings, and `same` tells words apart. The words for 0 and
+-- 1 mean these, and multiply like them.
+pub record Sound {W : Type 0} (means : W → ℤ) (on : Meanings) (ops : Ops W) : Type 0 where
+  pub injective : (x y : W) → means x ≡ means y → x ≡ y
+  pub numbered : (k : Argument) → means (ops.number k) ≡ on.number (whole k)
+  pub added : (x y : W) → option_map means (ops.plus x y) ≡ on.plus (means x) (means y)
+  pub multiplied : (x y : W) → option_map means (ops.times x y) ≡ on.times (means x) (means y)
+  pub ordered : (x y : W) → ops.at_most x y ≡ on.at_most (means x) (means y)
+  pub told : (x y : W) → Decides (ops.same x y) (means x ≡ means y)
+  pub zero : means (naught ops) ≡ pos 0
+  pub one : means (unit ops) ≡ pos 1
+  pub zeros : ops.times (naught ops) (naught ops) ≡ Some (naught ops)
+  pub zero_one : ops.times (naught ops) (unit ops) ≡ Some (naught ops)
+  pub one_zero : ops.times (unit ops) (naught ops) ≡ Some (naught ops)
+  pub ones : ops.times (unit ops) (unit ops) ≡ Some (unit ops)
 
 -- the remainder modulo 65536, from 0 to 65535; negsuc n is -n-1
 abbrev pub remainder : ℤ → ℕ

@@ -3,19 +3,22 @@
 ghost use Rattle.std.specs.Prelude.{◌≤◌, length};
 
 use crate::outcome::Finished;
+use arithmetic::Overflow;
 use bytecode::Argument;
 use refusal::Refusal;
 
 /// The machine at an instruction.
 #[derive(Drop)]
 pub struct Processor<'s, W> {
-    /// The words above the base; those up to the height are in use.
+    /// The words above the base.
     pub words: &'s mut [W],
+    /// How many of them are in use.
     pub height: usize,
     /// The accumulator.
     pub word: W,
-    /// The place of the instruction, and the place where it goes on.
+    /// The place of the instruction.
     pub place: usize,
+    /// The place where the machine goes on.
     pub next: usize,
     /// The end of the code.
     pub end: usize,
@@ -24,8 +27,9 @@ pub struct Processor<'s, W> {
 }
 
 impl<W: Copy> Processor<'_, W> {
-    ghost use Rattle.std.specs.Prelude.{◌≡◌, Option, ℕ, ◌+◌, ◌<◌};
-    ghost use Rattle.std.specs.Option.{SomeIff};
+    ghost use Rattle.std.specs.Prelude.{◌≡◌, Option, Result, ℕ, ◌+◌, ◌<◌};
+    ghost use Rattle.arithmetic.specs.declared.Overflow.{Overflow};
+    ghost use Rattle.std.specs.Option.{SomeIff, ok_or};
     ghost use Rattle.std.specs.Result.{MatchResult};
     ghost use Rattle.refusal.specs.declared.Refusal.TheVariants.{StackEmpty};
     ghost use Rattle.machine.specs.Processors.{Did};
@@ -62,13 +66,16 @@ impl<W: Copy> Processor<'_, W> {
         Ok(())
     }
 
-    /// Takes the top of the stack off, and puts it and the accumulator together; no word is an overflow.
-    pub(crate) fn merge<F: FnOnce(W, W) -> Option<W>>(&mut self, join: F) -> Result<(), Refusal>
+    /// Takes the top of the stack off, and puts it and the accumulator together.
+    pub(crate) fn merge<F: FnOnce(W, W) -> Result<W, Overflow>>(
+        &mut self,
+        join: F,
+    ) -> Result<(), Refusal>
         requires { F.IsAlwaysCallable join }
-        ensures { (f : W → W → Option W) → ((x a : W) (r : Option W) → F.post join x a r → r ≡ f x a) → Did (merged f self.old.next) self.old self.new result }
+        ensures { (f : W → W → Option W) → ((x a : W) (r : Result W Overflow) → F.post join x a r → r ≡ ok_or (f x a) (record {})) → Did (merged f self.old.next) self.old self.new result }
     {
         let top = self.lowered(1)?;
-        self.word = join(self.words[top], self.word).ok_or(Refusal::Overflow(self.place))?;
+        self.word = join(self.words[top], self.word).map_err(|_| Refusal::Overflow(self.place))?;
         self.height = top;
         Ok(())
     }

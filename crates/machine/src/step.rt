@@ -1,10 +1,11 @@
 //! One step of the machine.
 
 ghost use Rattle.std.specs.Prelude.{◌≡◌, ◌<◌};
+ghost use Rattle.std.specs.List.{slice_get};
 ghost use Rattle.bytecode.specs.Words.{plus as argument};
 ghost use Rattle.arithmetic.specs.Words.{truth as truth_of, naught};
 ghost use Rattle.machine.specs.Processors.{Did, Stepped};
-ghost use Rattle.machine.specs.Steps.{either as either_of, branched_if, performed, fetch, step as step_of};
+ghost use Rattle.machine.specs.Steps.{either as either_of, branched_if, performed, read_as, fetch, step as step_of};
 
 use crate::processor::Processor;
 use arithmetic::Arithmetic;
@@ -62,18 +63,27 @@ fn perform<A: Arithmetic>(
     match instruction {
         Instruction::Push => processor.push(),
         Instruction::Addi => processor.merge(|top, word| A::plus(top, word)),
-        Instruction::Eqi => processor.merge(|top, word| Some(truth::<A>(A::same(top, word)))),
-        Instruction::Ori => processor.merge(|top, word| Some(either::<A>(top, word))),
+        Instruction::Eqi => processor.merge(|top, word| Ok(truth::<A>(A::same(top, word)))),
+        Instruction::Ori => processor.merge(|top, word| Ok(either::<A>(top, word))),
         Instruction::Consti(k) => processor.load(A::number(k)),
-        Instruction::Pop => processor.merge(|top, _| Some(top)),
+        Instruction::Pop => processor.merge(|top, _| Ok(top)),
         Instruction::Acc(k) => processor.peek(k),
         Instruction::Popi(k) => processor.discard(k),
         Instruction::Branch(k) => processor.branch(k),
         Instruction::Branchif(k) => branch_if::<A>(processor, k),
         Instruction::Assign(k) => processor.assign(k),
         Instruction::Multi => processor.merge(|top, word| A::times(top, word)),
-        Instruction::Leqi => processor.merge(|top, word| Some(truth::<A>(A::at_most(top, word)))),
+        Instruction::Leqi => processor.merge(|top, word| Ok(truth::<A>(A::at_most(top, word)))),
     }
+}
+
+// The instruction at a place of the code.
+fn read<M: CodeMemory>(memory: &mut M, place: usize) -> Option<Instruction>
+    ensures answer { result ≡ read_as (slice_get (M.CodeMemory.listed memory.old) place) }
+    ensures room { M.CodeMemory.room memory.new ≡ M.CodeMemory.room memory.old }
+    ensures code { M.CodeMemory.listed memory.new ≡ M.CodeMemory.listed memory.old }
+{
+    memory.fetch(place)?.instruction()
 }
 
 /// One step, from where the processor goes on.
@@ -86,11 +96,9 @@ pub(crate) fn step<M: CodeMemory, A: Arithmetic>(
     ensures room { M.CodeMemory.room memory.new ≡ M.CodeMemory.room memory.old }
     ensures code { M.CodeMemory.listed memory.new ≡ M.CodeMemory.listed memory.old }
 {
-    processor.place = processor.next;
-    processor.next += 1;
-    let instruction = memory
-        .fetch(processor.place)
-        .and_then(|word| word.instruction())
-        .ok_or(Refusal::BadWord(processor.place))?;
+    let place = processor.next;
+    processor.place = place;
+    processor.next = place + 1;
+    let instruction = read(memory, place).ok_or(Refusal::BadWord(place))?;
     perform::<A>(processor, instruction)
 }

@@ -1,8 +1,8 @@
 -- What a caller is told, from the law.
-use Rattle.std.proofs.Common.{◌≡◌, ℕ, ◌+◌, ◌≤◌, Bool, true, false, ◌&&◌, ltb, List, ◌++◌, reverse, length, take, drop, ℤ, pos, Some, Ok, Err, Decides, Result, sym, refl, ap, ◌∙◌, subst, append_assoc, arith, length-append, length-drop}
+use Rattle.std.proofs.Common.{◌≡◌, ℕ, ◌+◌, ◌≤◌, Bool, true, false, ◌&&◌, ltb, List, ◌++◌, reverse, length, take, drop, ℤ, pos, Some, Ok, Err, Result, sym, refl, ap, ◌∙◌, subst, append_assoc, arith, length-append, length-drop}
 use Rattle.std.proofs.lemmas.List.{reverse-append, reverse-reverse, take-append-drop, take-take, take_at, length-take-le, length-reverse}
 use Rattle.std.proofs.lemmas.Bool.{cond-false, le-ltb}
-use Rattle.arithmetic.specs.Words.{Ops, naught, unit, truth}
+use Rattle.arithmetic.specs.Words.{Ops, Meanings, Sound, naught, unit, truth}
 use Rattle.evaluation.specs.Worth.{Worth, word, over, unbound, worth, placed}
 use Rattle.language.specs.Code.{tall}
 use Rattle.language.specs.Tree.{Tree}
@@ -38,11 +38,11 @@ words_only : {W : Type 0} (ops : Ops W) (t : Tree) (a : ValueType) (w : Worth W)
 words_only {W} ops t a (word v) r (k, (le, fits, e)) f g =
     let p : ◌≡◌ {A = Finished W} (record { word = v; steps = k }) f = cc in
     ap (λ (z : Finished W). word z.word) p
-words_only ops t a (over i) r (k, (lt, few, e)) f g = let z : ◌≡◌ {A = ℕ} 0 1 = cc in absurd (omega arith)
+words_only ops t a (over i) r (k, (lt, few, e)) f g = cc
 words_only ops t a unbound r h f g = elim h [ ]
 
 refusals_only : {W : Type 0} (ops : Ops W) (t : Tree) (a : ValueType) (w : Worth W) (r : Result (Finished W) Halt) → Says ops t a w r → (h : Halt) → r ≡ Err h → (i : ℕ) × ((w ≡ over i) × (h.refusal ≡ Overflow (placed t i)))
-refusals_only ops t a (word v) r (k, (le, fits, e)) h g = let z : ◌≡◌ {A = ℕ} 0 1 = cc in absurd (omega arith)
+refusals_only ops t a (word v) r (k, (le, fits, e)) h g = cc
 refusals_only ops t a (over i) r (k, (lt, few, e)) h g =
     let p : ◌≡◌ {A = Halt} h (record { refusal = Overflow (placed t i); steps = k }) = cc in
     (i, (refl, ap (λ (z : Halt). z.refusal) p))
@@ -77,22 +77,19 @@ answers {W} ops law t a typed xs base height budget eight room enough =
     }
 
 -- the laws of an arithmetic are enough
-pub lawful : {W : Type 0} (ops : Ops W) (means : W → ℤ) → ((x y : W) → Decides (ops.same x y) (means x ≡ means y)) → means (naught ops) ≡ pos 0 → means (unit ops) ≡ pos 1 →
-    ops.times (naught ops) (naught ops) ≡ Some (naught ops) → ops.times (naught ops) (unit ops) ≡ Some (naught ops) →
-    ops.times (unit ops) (naught ops) ≡ Some (naught ops) → ops.times (unit ops) (unit ops) ≡ Some (unit ops) → Lawful ops
-lawful ops means told zero_is one-is zz zo oz oo =
-    record { zero_same = (told (naught ops) (naught ops)).1 refl; one_other = by (ops.same (unit ops) (naught ops)) refl; product = times }
+pub lawful : {W : Type 0} (ops : Ops W) (means : W → ℤ) (on : Meanings) → Sound means on ops → Lawful ops
+lawful ops means on sound =
+    record { zero_same = (sound.told (naught ops) (naught ops)).1 refl; one_other = by (ops.same (unit ops) (naught ops)) refl; product = times }
   where
     by : (b : Bool) → ops.same (unit ops) (naught ops) ≡ b → b ≡ false
     by false e = refl
     by true e =
-        let f : means (unit ops) ≡ means (naught ops) = (told (unit ops) (naught ops)).0 e in
-        let g : pos 1 ≡ pos 0 = sym one-is ∙ f ∙ zero_is in
-        let z : ◌≡◌ {A = ℕ} 1 0 = cc in
-        absurd (omega arith)
+        let f : means (unit ops) ≡ means (naught ops) = (sound.told (unit ops) (naught ops)).0 e in
+        let g : pos 1 ≡ pos 0 = sym sound.one ∙ f ∙ sound.zero in
+        cc
 
     times : (a b : Bool) → ops.times (truth ops a) (truth ops b) ≡ Some (truth ops (a && b))
-    times true true = oo
-    times true false = oz
-    times false true = zo
-    times false false = zz
+    times true true = sound.ones
+    times true false = sound.one_zero
+    times false true = sound.zero_one
+    times false false = sound.zeros

@@ -1,5 +1,6 @@
 -- The law from the simulation.
-use Rattle.std.proofs.Common.{◌≡◌, ℕ, suc, ◌+◌, ◌-◌, ◌≤◌, List, [], ◌∷◌, ◌++◌, map, length, take, Some, None, refl, ap, ◌∙◌, subst, arith}
+use Rattle.std.proofs.Common.{◌≡◌, ℕ, suc, ◌+◌, ◌-◌, ◌≤◌, List, ◌++◌, length, take, Some, None, ap, ◌∙◌, subst, arith}
+use Rattle.std.proofs.lemmas.List.{length-map}
 use Rattle.arithmetic.specs.Words.{Ops}
 use Rattle.bytecode.specs.Words.{written}
 use Rattle.evaluation.specs.Worth.{Worth, word, over, unbound, worth, placed}
@@ -16,12 +17,8 @@ use Rattle.simulation.proofs.Reached.{runs_reaches, runs_end, runs_stop}
 use Rattle.simulation.proofs.Simulation.{Sim, simulated}
 use Rattle.simulation.proofs.Typed.{well, values_top, agree_numbers}
 
-length-map : {X Y : Type 0} (f : X → Y) (xs : List X) → length (map f xs) ≡ length xs
-length-map f [] = refl
-length-map f (x ∷ xs) = ap suc (length-map f xs)
-
 pub length-words : (t : Tree) → length (words_of t) ≡ long t
-length-words t = length-map written (translation t) ∙ length-code field_slots t
+length-words t = length-map (translation t) written ∙ length-code field_slots t
 
 closes : {W : Type 0} (ops : Ops W) (law : Lawful ops) (t : Tree) (a : ValueType) (acc : W) (st fs : List W) (budget : ℕ) → long t ≤ budget → (w : Worth W) →
     Sim ops law (length (words_of t)) (fetch (words_of t)) (past_end (words_of t)) 0 acc st fs 0 (long t) (size t) (placed t) (Fits ops a) w →

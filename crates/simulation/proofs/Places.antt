@@ -97,7 +97,7 @@ before_end get end past x p q f = by (cases_lt p end)
   where
     by : (p < end) ⊎ (end ≤ p) → p < end
     by (inl lt) = lt
-    by (inr ge) = let e = past p ge in let z : ◌≡◌ {A = ℕ} 0 1 = cc in absurd (omega arith)
+    by (inr ge) = let e = past p ge in cc
 
 pub at_fits : (get : ℕ → Option (Instruction × ℕ)) (end : ℕ) → ((p : ℕ) → end ≤ p → get p ≡ None) → (xs : List Instruction) (p : ℕ) → 0 < length xs → CodeAt get p xs → p + length xs ≤ end
 at_fits get end past [] p h c = absurd (omega arith)

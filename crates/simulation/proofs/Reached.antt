@@ -46,10 +46,10 @@ module _ {W : Type 0} (ops : Ops W) (end : ℕ) (get : ℕ → Option (Instructi
   at_end s h = let le : end ≤ place s = omega arith in ap (λ o. fetched ops end o s) (past (place s) le)
 
   not_ended : (s u : State W) → step ops end get s ≡ Ok u → eqb (place s) end ≡ false
-  not_ended s u e = ne_eqb (place s) end (λ h. let f = at_end s h in let z : ◌≡◌ {A = ℕ} 0 1 = cc in absurd (omega arith))
+  not_ended s u e = ne_eqb (place s) end (λ h. let f = at_end s h in cc)
 
   not_stopped : (s : State W) (p : ℕ) → step ops end get s ≡ Err (Overflow p) → eqb (place s) end ≡ false
-  not_stopped s p e = ne_eqb (place s) end (λ h. let f = at_end s h in let z : ◌≡◌ {A = ℕ} 0 1 = cc in absurd (omega arith))
+  not_stopped s p e = ne_eqb (place s) end (λ h. let f = at_end s h in cc)
 
   pub runs_reaches : (k b : ℕ) (s u : State W) → Reaches k s u → runs ops end get (k + b) s ≡ runs ops end get b u
   runs_reaches zero b s u e =

@@ -1,6 +1,7 @@
 -- What a typed tree has: the types of its parts, and words of these types.
-use Rattle.std.proofs.Common.{◌≡◌, ℕ, zero, suc, ◌+◌, ◌<◌, ◌≤◌, Bool, true, false, ◌&&◌, List, [], ◌∷◌, length, take, replicate, Some, None, Ok, Err, Option, Result, sym, refl, ap, ◌∙◌, subst, arith}
+use Rattle.std.proofs.Common.{◌≡◌, ℕ, zero, suc, ◌+◌, ◌≤◌, Bool, true, false, ◌&&◌, List, [], ◌∷◌, length, take, replicate, Some, None, Ok, Err, Option, Result, sym, refl, ap, ◌∙◌, subst, arith}
 use Rattle.std.specs.List.{slice_get}
+use Rattle.std.proofs.lemmas.Option.{slice_get_within}
 use Rattle.arithmetic.specs.Words.{Ops}
 use Rattle.grammar.specs.Grammar.{Bound}
 use Rattle.language.specs.Code.{Slot, bound, waiting, above}
@@ -26,24 +27,24 @@ ok_is a b e = cc
 
 and_then_parts : (r : Result ValueType ℕ) (f : ValueType → Result ValueType ℕ) (c : ValueType) → and_then r f ≡ Ok c → (a : ValueType) × ((r ≡ Ok a) × (f a ≡ Ok c))
 and_then_parts (Ok a) f c e = (a, (refl, e))
-and_then_parts (Err p) f c e = let z : ◌≡◌ {A = ℕ} 0 1 = cc in absurd (omega arith)
+and_then_parts (Err p) f c e = cc
 
 fit : (b : Bool) (g : ValueType) (p : ℕ) (c : ValueType) → fitting b g p ≡ Ok c → (b ≡ true) × (c ≡ g)
 fit true g p c e = (refl, ok_is g c e)
-fit false g p c e = let z : ◌≡◌ {A = ℕ} 0 1 = cc in absurd (omega arith)
+fit false g p c e = cc
 
 same_is : (a b : ValueType) → same_type a b ≡ true → a ≡ b
 same_is Number Number e = refl
-same_is Number Truth e = let z : ◌≡◌ {A = ℕ} 0 1 = cc in absurd (omega arith)
-same_is Truth Number e = let z : ◌≡◌ {A = ℕ} 0 1 = cc in absurd (omega arith)
+same_is Number Truth e = cc
+same_is Truth Number e = cc
 same_is Truth Truth e = refl
 
 both : (a b : Bool) → (a && b) ≡ true → (a ≡ true) × (b ≡ true)
 both true b e = (refl, e)
-both false b e = let z : ◌≡◌ {A = ℕ} 0 1 = cc in absurd (omega arith)
+both false b e = cc
 
 known_is : (o : Option ValueType) (p : ℕ) (a : ValueType) → known o p ≡ Ok a → o ≡ Some a
-known_is None p a e = let z : ◌≡◌ {A = ℕ} 0 1 = cc in absurd (omega arith)
+known_is None p a e = cc
 known_is (Some b) p a e = ap Some (sym (ok_is b a e))
 
 pub well : (env : List ValueType) (t : Tree) (a : ValueType) → typed env t ≡ Ok a → Well env t a
@@ -84,16 +85,11 @@ well env (bind p t u) a e =
     let r = and_then_parts (typed env t) (λ b. typed (b ∷ env) u) a e in
     (r.0, (well env t r.0 r.1.0, well (r.0 ∷ env) u a r.1.1))
 
-within : (env : List ValueType) (k : ℕ) (a : ValueType) → slice_get env k ≡ Some a → k < length env
-within [] k a e = let z : ◌≡◌ {A = ℕ} 0 1 = cc in absurd (omega arith)
-within (b ∷ env) zero a e = omega arith
-within (b ∷ env) (suc k) a e = let r = within env k a e in omega arith
-
 -- each name of a typed tree has a binding
 pub well_bound : (env : List ValueType) (t : Tree) (a : ValueType) → Well env t a → Bound (length env) t
 well_bound env (number k p) a w = tt
 well_bound env (truth b p) a w = tt
-well_bound env (name k p) a w = within env k a w
+well_bound env (name k p) a w = slice_get_within env k a w
 well_bound env (prefix o p t) a w = well_bound env t (prefix_row_of o).takes w.0
 well_bound env (binary o p t u) a w = (well_bound env t (row_of o).takes w.0, well_bound env u (row_of o).takes w.1.0)
 well_bound env (choose p t u v) a w = (well_bound env t Truth w.0, (well_bound env u a w.1.0, well_bound env v a w.1.1))
@@ -118,15 +114,15 @@ Agree ops (a ∷ env) [] = ⊥
 Agree ops (a ∷ env) (v ∷ vs) = Fits ops a v × Agree ops env vs
 
 pub agree_at : {W : Type 0} (ops : Ops W) (env : List ValueType) (vs : List W) (k : ℕ) (a : ValueType) → Agree ops env vs → slice_get env k ≡ Some a → (v : W) × ((slice_get vs k ≡ Some v) × Fits ops a v)
-agree_at ops [] vs k a h e = let z : ◌≡◌ {A = ℕ} 0 1 = cc in absurd (omega arith)
+agree_at ops [] vs k a h e = cc
 agree_at ops (b ∷ env) [] k a h e = elim h [ ]
 agree_at ops (b ∷ env) (v ∷ vs) zero a h e = let f : b ≡ a = cc in (v, (refl, subst (λ c. Fits ops c v) f h.0))
 agree_at ops (b ∷ env) (v ∷ vs) (suc k) a h e = agree_at ops env vs k a h.1 e
 
 -- a name's word lies where its code looks for it
 pub above_is : {W : Type 0} (s : List Slot) (st : List W) (k : ℕ) (v : W) → slice_get (values s st) k ≡ Some v → slice_get st (above s k) ≡ Some v
-above_is [] st k v e = let z : ◌≡◌ {A = ℕ} 0 1 = cc in absurd (omega arith)
-above_is (x ∷ s) [] k v e = let z : ◌≡◌ {A = ℕ} 0 1 = cc in absurd (omega arith)
+above_is [] st k v e = cc
+above_is (x ∷ s) [] k v e = cc
 above_is (bound ∷ s) (w ∷ st) zero v e = e
 above_is (bound ∷ s) (w ∷ st) (suc k) v e = let n : above s k + 1 ≡ suc (above s k) = omega arith in ap (λ i. slice_get (w ∷ st) i) n ∙ above_is s st k v e
 above_is (waiting ∷ s) (w ∷ st) k v e = let n : above s k + 1 ≡ suc (above s k) = omega arith in ap (λ i. slice_get (w ∷ st) i) n ∙ above_is s st k v e
