@@ -1,5 +1,5 @@
 -- The state of the fold that a parser stands for, and how the code keeps step with the fold.
-use Rattle.std.specs.Prelude.{◌≡◌, ℕ, ◌+◌, List, [], ◌∷◌, Ok, Err, Result, slice_set}
+use Rattle.std.specs.Prelude.{◌≡◌, ℕ, ◌+◌, ◌^◌, ◌<◌, List, [], ◌∷◌, Ok, Err, Result, length, slice_set}
 use Rattle.refusal.specs.declared.Refusal.{Refusal}
 use Rattle.language.specs.Fold.{State, state, Step}
 use Rattle.language.specs.declared.entry.Entry.{Entry}
@@ -19,6 +19,10 @@ put table n (e ∷ es) = put (slice_set table n e) (n + 1) es
 abbrev pub Answered : Step → Result (Unit {0}) Refusal → Parser → Parser → Type 0
 Answered (Ok u) r old new = (r ≡ Ok tt) × (view new ≡ u.0) × (new.table.now ≡ put old.table.now old.count u.1)
 Answered (Err e) r old new = r ≡ Err e
+
+-- one more entry or frame can be counted
+abbrev pub Room : Parser → Type 0
+Room p = p.count + length (frames_of p.stack) + 1 < 2 ^ 64
 
 -- a step of a parser, which keeps its table
 pub record Stepped (x : Step) (r : Result (Unit {0}) Refusal) (old new : Parser) : Type 0 where

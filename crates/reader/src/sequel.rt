@@ -5,7 +5,7 @@ ghost use Rattle.language.specs.Fold.{ends, ended, endings, joined, turned as tu
 ghost use Rattle.std.specs.Option.{ok_or};
 ghost use Rattle.reader.specs.Stacks.{top};
 ghost use Rattle.reader.specs.Opened.{frames_of};
-ghost use Rattle.reader.specs.Steps.{view, Stepped};
+ghost use Rattle.reader.specs.Steps.{view, Room, Stepped};
 
 use crate::kinds::{is_paren, is_value, refused, sequel, turned};
 use crate::parser::Parser;
@@ -27,7 +27,7 @@ fn least_of(operator: Operator) -> usize
 impl<'t, 'a> Parser<'t, 'a> {
     // An operator between two operands.
     fn join(&mut self, operator: Operator, place: usize) -> Result<(), Refusal>
-        requires { self.old.count + length (frames_of self.old.stack) + 1 < 2 ^ 64 }
+        requires { Room self.old }
         ensures { Stepped (joined operator place (ended (ends operator) (view self.old)) (endings (ends operator) (view self.old))) result self.old self.new }
     {
         self.close(least_of(operator));
@@ -41,7 +41,7 @@ impl<'t, 'a> Parser<'t, 'a> {
 
     // The frame on top, once each frame has ended that may.
     fn innermost(&mut self, place: usize) -> Result<Frame, Refusal>
-        requires { self.old.count + length (frames_of self.old.stack) + 1 < 2 ^ 64 }
+        requires { Room self.old }
         ensures ended { Stepped (Ok (ended 0 (view self.old), endings 0 (view self.old))) (Ok tt) self.old self.new }
         ensures top { result ≡ ok_or (top (frames_of self.new.stack)) (Refusal.Unexpected place) }
     {
@@ -51,7 +51,7 @@ impl<'t, 'a> Parser<'t, 'a> {
 
     // The next part of an if.
     fn turn(&mut self, turn: Turn, place: usize) -> Result<(), Refusal>
-        requires { self.old.count + length (frames_of self.old.stack) + 1 < 2 ^ 64 }
+        requires { Room self.old }
         ensures { Stepped (turned_by (turn_of turn) place (ended 0 (view self.old)) (endings 0 (view self.old))) result self.old self.new }
     {
         let frame = self.innermost(place)?;
@@ -64,7 +64,7 @@ impl<'t, 'a> Parser<'t, 'a> {
 
     // The second expression of a let, in which its name is in scope.
     fn bring(&mut self, place: usize) -> Result<(), Refusal>
-        requires { self.old.count + length (frames_of self.old.stack) + 1 < 2 ^ 64 }
+        requires { Room self.old }
         ensures { Stepped (brought (turned_by in_of place (ended 0 (view self.old)) (endings 0 (view self.old)))) result self.old self.new }
     {
         let frame = self.innermost(place)?;
@@ -80,7 +80,7 @@ impl<'t, 'a> Parser<'t, 'a> {
 
     // The end of a parenthesis.
     fn shut(&mut self, place: usize) -> Result<(), Refusal>
-        requires { self.old.count + length (frames_of self.old.stack) + 1 < 2 ^ 64 }
+        requires { Room self.old }
         ensures { Stepped (shut place (ended 0 (view self.old)) (endings 0 (view self.old))) result self.old self.new }
     {
         let frame = self.innermost(place)?;
@@ -93,7 +93,7 @@ impl<'t, 'a> Parser<'t, 'a> {
 
     // The end of the text.
     fn finish(&mut self, place: usize) -> Result<(), Refusal>
-        requires { self.old.count + length (frames_of self.old.stack) + 1 < 2 ^ 64 }
+        requires { Room self.old }
         ensures { Stepped (finished place (ended 0 (view self.old)) (endings 0 (view self.old))) result self.old self.new }
     {
         self.close(0);
@@ -105,7 +105,7 @@ impl<'t, 'a> Parser<'t, 'a> {
 
     /// Takes a token where an operand has ended.
     pub(crate) fn go_on(&mut self, token: Token<'a>) -> Result<(), Refusal>
-        requires { self.old.count + length (frames_of self.old.stack) + 1 < 2 ^ 64 }
+        requires { Room self.old }
         ensures { Stepped (gone_on (sequel_of token.entry.kind) (view self.old) token.entry.kind token.entry.place) result self.old self.new }
     {
         let place = token.place;
