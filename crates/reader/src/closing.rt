@@ -48,7 +48,6 @@ impl<'t, 'a> Parser<'t, 'a> {
         requires fits { due_fits self.old.due (drop 1 (frames_of self.old.stack)) ≡ true }
         ensures view { view self.new ≡ state (drop 1 (frames_of self.old.stack)) (held self.old.pending) (leaving frame.mark (held self.old.scope)) self.old.due self.old.count }
         ensures table { self.new.table ≡ self.old.table }
-        ensures used { length (frames_of self.new.stack) + 1 ≡ length (frames_of self.old.stack) }
     {
         leave(&mut self.scope, frame.mark);
         self.stack.pop();

@@ -12,7 +12,7 @@ invariant_of-self c =
     let t = was_some _ _ _ (sym c.innermost.ensures.top ∙ c.in_ok-frame.was) in
     let e = sym c.turned.ensures ∙ was_some _ _ _ (sym c.ok_or.ensures.value ∙ c.in_ok-mark.was) in
     record {
-      valued = p.valued ∙ sym (ap values c.remark.ensures.frames ∙ turn_values c.args.turn fs f c.in_ok-mark.mark _ t e);
-      bodied = p.bodied ∙ sym (ap bodies c.remark.ensures.frames ∙ turn_bodies c.args.turn fs f c.in_ok-mark.mark _ t e);
+      valued = p.valued ∙ sym (ap values c.remark.ensures ∙ turn_values c.args.turn fs f c.in_ok-mark.mark _ t e);
+      bodied = p.bodied ∙ sym (ap bodies c.remark.ensures ∙ turn_bodies c.args.turn fs f c.in_ok-mark.mark _ t e);
       expected = refl;
     }
