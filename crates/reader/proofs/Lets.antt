@@ -1,10 +1,9 @@
 -- Operators find room, and so do the names of lets.
-use Rattle.std.proofs.Common.{◌≡◌, ℕ, ◌<◌, ◌≤◌, Bool, true, false, ltb, List, [], ◌∷◌, Some, Option, Ok, sym, ◌∙◌, subst, arith}
+use Rattle.std.proofs.Common.{◌≡◌, ℕ, ◌<◌, ◌≤◌, Bool, true, false, List, [], ◌∷◌, Some, Option, Ok, sym, ap, ◌∙◌, subst, arith}
 use Rattle.std.specs.Option.{ok_or}
-use Rattle.std.proofs.lemmas.Bool.{cond_both, leb-false, lt-ltb}
+use Rattle.std.proofs.lemmas.Bool.{cond_both, leb-false}
 use Rattle.language.specs.Fold.{ends, remarked, turn_of}
 use Rattle.language.specs.Frames.{level_by, above, binds, left, nests, deep, is_body}
-use Rattle.language.specs.Operators.{row_of}
 use Rattle.language.specs.declared.frame.Frame.{Frame}
 use Rattle.language.specs.declared.frame.Mark.{Mark}
 use Rattle.language.specs.declared.operator.Operator.{Operator}
@@ -21,20 +20,15 @@ left_above k [] low high = omega arith
 left_above k (f ∷ fs) low high =
     cond_both (binds k f.mark) (left k fs) (f ∷ fs) (λ gs. above gs < k) (λ b. left_above k fs low high) (λ b. looser k f.mark low high b)
 
-ends_at : (o : Operator) (n : ℕ) → n < ends o → (n ≡ (row_of o).level → ⊥) → n < (row_of o).level
-ends_at o n h e = grind arith
-
 ends_low : (o : Operator) → 1 ≤ ends o
 ends_low o = grind arith
 
 ends_high : (o : Operator) → ends o ≤ 6
 ends_high o = grind arith
 
--- an operator may be put on what it left open
-pub operator_opens : (o : Operator) (fs gs : List Frame) (n : ℕ) → gs ≡ left (ends o) fs → n ≡ above gs → (n ≡ (row_of o).level → ⊥) → ltb (above gs) (row_of o).level ≡ true
-operator_opens o fs gs n e a apart =
-    let l : above gs < ends o = subst (λ hs. above hs < ends o) (sym e) (left_above (ends o) fs (ends_low o) (ends_high o)) in
-    lt-ltb (above gs) (row_of o).level (ends_at o (above gs) l (λ same. apart (a ∙ same)))
+-- what an operator leaves open holds less tightly than it ends
+pub operator_low : (o : Operator) (k : ℕ) (fs gs : List Frame) → k ≡ ends o → gs ≡ left k fs → above gs < ends o
+operator_low o k fs gs same e = let low = left_above (ends o) fs (ends_low o) (ends_high o) in subst (λ hs. above hs < ends o) (sym (e ∙ ap (λ n. left n fs) same)) low
 
 -- what was there if there was no refusal
 pub was_some : {X E : Type 0} (o : Option X) (e : E) (x : X) → ok_or o e ≡ Ok x → o ≡ Some x

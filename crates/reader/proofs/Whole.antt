@@ -20,6 +20,7 @@ use Rattle.language.specs.declared.operator.Operator.{Operator as OperatorOf}
 use Rattle.language.specs.declared.step.Opening.{Opening}
 use Rattle.language.specs.declared.step.Sequel.{Sequel}
 use Rattle.language.specs.declared.token.TokenKind.{TokenKind}
+use Rattle.reader.proofs.Sequels.{put_more}
 use Rattle.reader.specs.Outcomes.{paired, laid}
 use Rattle.reader.specs.Steps.{view, put, Answered, Stepped}
 use Rattle.reader.specs.declared.parser.Parser.{Parser}
@@ -88,11 +89,6 @@ counts_duly d s k p x = grind (arith, counts_begun, counts_bound, counts_gone_on
 
 feed_counts : (s : State) (t : Lexeme) → Counts s.count (total s + 1) (feed s t)
 feed_counts s t = counts_duly s.due s t.kind t.place t.text
-
--- entries written one list after another
-put_more : (table : List Entry) (n : ℕ) (es fs : List Entry) → put table n (es ++ fs) ≡ put (put table n es) (n + length es) fs
-put_more table n [] fs = grind arith
-put_more table n (e ∷ es) fs = let rest = put_more (set table n e) (n + 1) es fs in grind arith
 
 laid_more : (table : List Entry) (n : ℕ) (es : List Entry) (r : Result (List Entry) Refusal) → laid table n (prefixed es r) ≡ laid (put table n es) (n + length es) r
 laid_more table n es r = grind (arith, put_more, length-append)
