@@ -1,4 +1,5 @@
 pub mod Fields
 pub mod Stacks
 pub mod Lets
+pub mod Sequels
 pub mod Whole

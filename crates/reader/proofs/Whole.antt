@@ -1,30 +1,26 @@
 -- Reading token by token gives what the fold over all tokens gives.
-use Rattle.std.proofs.Common.{◌≡◌, ℕ, zero, suc, ◌+◌, ◌<◌, ◌≤◌, Bool, true, false, cond, ◌&&◌, ◌||◌, eqb, ltb, leb, List, [], ◌∷◌, ◌++◌, length, get_or, take, drop, set, replicate, IfOk, is_err, Some, None, Ok, Err, Option, Result, sym, refl, ap, ◌∙◌, subst, append_assoc, arith, length-append}
+use Rattle.std.proofs.Common.{◌≡◌, ℕ, zero, suc, ◌+◌, ◌<◌, ◌≤◌, Bool, true, false, cond, ◌&&◌, ◌||◌, leb, List, [], ◌∷◌, ◌++◌, length, get_or, take, drop, set, replicate, IfOk, is_err, Ok, Err, Option, Result, sym, refl, ap, ◌∙◌, subst, append_assoc, arith, length-append}
 use Rattle.std.proofs.lemmas.List.{append-nil, take-append-drop, take_more_set, drop-set-lt, length-set}
-use Rattle.std.proofs.lemmas.Bool.{cond-true, cond-false, true≢false, or_left, eqb-false}
+use Rattle.std.proofs.lemmas.Bool.{or_left, eqb-false}
 use Rattle.refusal.specs.declared.Refusal.{Refusal}
 use Rattle.bytecode.specs.Words.{plus}
 use Rattle.bytecode.specs.declared.argument.Argument.{Argument}
 use Rattle.bytecode.proofs.Words.{same_argument}
-use Rattle.language.specs.Fold.{State, Step, named, enter, begun_by, begun, opening_of, remarked, is_name, bound, is_equal, ended, endings, ends, joined, turn_to, turn_top, turned, turn_of, in_of, brought, shut_top, is_paren, finish_top, gone_on_by, gone_on, sequel_of, duly, feed, feeds, prefixed, followed}
-use Rattle.language.specs.Frames.{above, binds, joint, left, closed, deep}
-use Rattle.language.specs.Operators.{row_of}
+use Rattle.language.specs.Fold.{State, Step, named, enter, begun_by, begun, remarked, bound, ended, endings, ends, joined, turn_to, turn_top, brought, shut_top, finish_top, gone_on_by, gone_on, duly, feed, feeds, prefixed}
+use Rattle.language.specs.Frames.{left, closed}
 use Rattle.language.specs.Reading.{is_last, tokens_from, leaves}
 use Rattle.language.specs.Tree.{entry, blank}
 use Rattle.language.specs.Tokens.{Lexeme, lexeme, after, begins, scanned, begun as begun_with, is_digit, is_small, is_word, is_minus, two_mark, one_mark, mark_by, run_of}
 use Rattle.language.specs.declared.entry.Entry.{Entry}
 use Rattle.language.specs.declared.entry.Kind.TheVariants.{Blank}
 use Rattle.language.specs.declared.frame.Due.{Due}
-use Rattle.language.specs.declared.frame.Due.TheVariants.{Operand, Binder, Equals, Operator}
 use Rattle.language.specs.declared.frame.Frame.{Frame}
 use Rattle.language.specs.declared.frame.Mark.{Mark}
-use Rattle.language.specs.declared.frame.Mark.TheVariants.{Value}
 use Rattle.language.specs.declared.operator.Operator.{Operator as OperatorOf}
 use Rattle.language.specs.declared.step.Opening.{Opening}
-use Rattle.language.specs.declared.step.Opening.TheVariants.{Leaf, Name, Nested, Whole}
 use Rattle.language.specs.declared.step.Sequel.{Sequel}
-use Rattle.language.specs.declared.step.Sequel.TheVariants.{Join, Turn, Bring, Shut, Finish}
 use Rattle.language.specs.declared.token.TokenKind.{TokenKind}
+use Rattle.reader.proofs.Sequels.{put_more}
 use Rattle.reader.specs.Outcomes.{paired, laid}
 use Rattle.reader.specs.Steps.{view, put, Answered, Stepped}
 use Rattle.reader.specs.declared.parser.Parser.{Parser}
@@ -38,113 +34,68 @@ abbrev Counts : ℕ → ℕ → Step → Type 0
 Counts n most (Ok u) = (u.0.count ≡ n + length u.1) × (total u.0 ≤ most)
 Counts n most (Err e) = Unit {0}
 
-counts_if : (b : Bool) (n most : ℕ) (x y : Step) → Counts n most x → Counts n most y → Counts n most (cond b x y)
-counts_if true n most x y f g = f
-counts_if false n most x y f g = g
-
 counts_named : (o : Option ℕ) (p : ℕ) (s : State) → Counts s.count (total s + 1) (named o p s)
-counts_named None p s = tt
-counts_named (Some i) p s = (refl, omega arith)
+counts_named o p s = grind arith
 
 counts_enter : (m : Mark) (p : ℕ) (d : Due) (s : State) → Counts s.count (total s + 1) (enter m p d s)
-counts_enter m p d s = counts_if (ltb (deep s.frames) 64) s.count (total s + 1) _ _ (omega arith, omega arith) tt
+counts_enter m p d s = grind arith
 
 counts_begun_by : (o : Opening) (s : State) (p : ℕ) (x : List ℕ) → Counts s.count (total s + 1) (begun_by o s p x)
-counts_begun_by (Leaf e n) s p x = (refl, omega arith)
-counts_begun_by Name s p x = counts_named _ p s
-counts_begun_by (Nested m) s p x = counts_enter m p Operand s
-counts_begun_by (Whole m d) s p x = counts_if (eqb (above s.frames) 0) s.count (total s + 1) _ _ (counts_enter m p d s) tt
+counts_begun_by o s p x = grind arith
 
 counts_begun : (o : Option Opening) (s : State) (k : TokenKind) (p : ℕ) (x : List ℕ) → Counts s.count (total s + 1) (begun o s k p x)
-counts_begun None s k p x = tt
-counts_begun (Some o) s k p x = counts_begun_by o s p x
+counts_begun o s k p x = grind (arith, counts_begun_by)
 
 length-remarked : (m : Mark) (n : ℕ) (fs : List Frame) → length (remarked m n fs) ≡ length fs
-length-remarked m n [] = refl
-length-remarked m n (f ∷ fs) = refl
+length-remarked m n fs = grind arith
 
 -- what ends is no frame any more
-closed_left : (b : Bool) (k n : ℕ) (f : Frame) (fs : List Frame) → length (closed k fs (n + 1)) + length (left k fs) ≡ length fs →
-    length (cond b (joint f n ∷ closed k fs (n + 1)) []) + length (cond b (left k fs) (f ∷ fs)) ≡ suc (length fs)
-closed_left true k n f fs h = omega arith
-closed_left false k n f fs h = omega arith
-
 length-closed : (k n : ℕ) (fs : List Frame) → length (closed k fs n) + length (left k fs) ≡ length fs
 length-closed k n [] = refl
-length-closed k n (f ∷ fs) = closed_left (binds k f.mark) k n f fs (length-closed k (n + 1) fs)
+length-closed k n (f ∷ fs) = let rest = length-closed k (n + 1) fs in grind arith
 
 total_ended : (k : ℕ) (s : State) → total (ended k s) ≤ total s + 1
 total_ended k s = let e = length-closed k s.count s.frames in omega arith
 
 counts_turn_to : (o : Option Mark) (p n most : ℕ) (u : State) (es : List Entry) → u.count ≡ n + length es → total u ≤ most → Counts n most (turn_to o p u es)
-counts_turn_to None p n most u es h t = tt
-counts_turn_to (Some m) p n most u es h t = let e = length-remarked m u.count u.frames in (h, omega arith)
+counts_turn_to o p n most u es h t = grind (arith, length-remarked)
 
 counts_turn : (g : Mark → Option Mark) (p n most : ℕ) (fs : List Frame) (u : State) (es : List Entry) → u.count ≡ n + length es → total u ≤ most → Counts n most (turn_top g p fs u es)
-counts_turn g p n most [] u es h t = tt
-counts_turn g p n most (f ∷ fs) u es h t = counts_turn_to (g f.mark) p n most u es h t
+counts_turn g p n most fs u es h t = grind (arith, counts_turn_to)
 
 counts_brought : (n most : ℕ) (x : Step) → Counts n most x → Counts n most (brought x)
-counts_brought n most (Ok u) h = h
-counts_brought n most (Err e) h = tt
+counts_brought n most x h = grind arith
 
 counts_shut : (p n most : ℕ) (fs : List Frame) (u : State) (es : List Entry) → u.count ≡ n + length es → u.count + length fs ≤ most → Counts n most (shut_top p fs u es)
-counts_shut p n most [] u es h t = tt
-counts_shut p n most (f ∷ fs) u es h t = counts_if (is_paren f.mark) n most _ _ (h, omega arith) tt
+counts_shut p n most fs u es h t = grind arith
 
 counts_finish : (p n most : ℕ) (fs : List Frame) (u : State) (es : List Entry) → u.count ≡ n + length es → total u ≤ most → Counts n most (finish_top p fs u es)
-counts_finish p n most [] u es h t = (h, t)
-counts_finish p n most (f ∷ fs) u es h t = tt
+counts_finish p n most fs u es h t = grind arith
 
 counts_joined : (o : OperatorOf) (p : ℕ) (s : State) → Counts s.count (total s + 1) (joined o p (ended (ends o) s) (endings (ends o) s))
-counts_joined o p s =
-    let e = length-closed (ends o) s.count s.frames in
-    counts_if (eqb (above (ended (ends o) s).frames) (row_of o).level) s.count (total s + 1) _ _ tt (refl, omega arith)
+counts_joined o p s = let e = length-closed (ends o) s.count s.frames in grind arith
 
 counts_gone_on_by : (q : Sequel) (s : State) (p : ℕ) → Counts s.count (total s + 1) (gone_on_by q s p)
-counts_gone_on_by (Join o) s p = counts_joined o p s
-counts_gone_on_by (Turn w) s p = counts_turn (turn_of w) p s.count (total s + 1) (ended 0 s).frames (ended 0 s) (endings 0 s) refl (total_ended 0 s)
-counts_gone_on_by Bring s p = counts_brought s.count (total s + 1) (turned in_of p (ended 0 s) (endings 0 s)) (counts_turn in_of p s.count (total s + 1) (ended 0 s).frames (ended 0 s) (endings 0 s) refl (total_ended 0 s))
-counts_gone_on_by Shut s p = counts_shut p s.count (total s + 1) (ended 0 s).frames (ended 0 s) (endings 0 s) refl (total_ended 0 s)
-counts_gone_on_by Finish s p = counts_finish p s.count (total s + 1) (ended 0 s).frames (ended 0 s) (endings 0 s) refl (total_ended 0 s)
+counts_gone_on_by q s p = grind (arith, counts_joined, counts_turn, counts_brought, counts_shut, counts_finish, total_ended)
 
 counts_gone_on : (q : Option Sequel) (s : State) (k : TokenKind) (p : ℕ) → Counts s.count (total s + 1) (gone_on q s k p)
-counts_gone_on None s k p = tt
-counts_gone_on (Some q) s k p = counts_gone_on_by q s p
+counts_gone_on q s k p = grind (arith, counts_gone_on_by)
 
 counts_bound : (s : State) (k : TokenKind) (p : ℕ) (x : List ℕ) → Counts s.count (total s + 1) (bound s k p x)
-counts_bound s k p x =
-    let e = length-remarked Value s.count s.frames in
-    counts_if (is_name k) s.count (total s + 1) _ _ (omega arith, omega arith) tt
+counts_bound s k p x = grind (arith, length-remarked)
 
 counts_duly : (d : Due) (s : State) (k : TokenKind) (p : ℕ) (x : List ℕ) → Counts s.count (total s + 1) (duly d s k p x)
-counts_duly Operand s k p x = counts_begun (opening_of k) s k p x
-counts_duly Binder s k p x = counts_bound s k p x
-counts_duly Equals s k p x = counts_if (is_equal k) s.count (total s + 1) _ _ (omega arith, omega arith) tt
-counts_duly Operator s k p x = counts_gone_on (sequel_of k) s k p
+counts_duly d s k p x = grind (arith, counts_begun, counts_bound, counts_gone_on)
 
 feed_counts : (s : State) (t : Lexeme) → Counts s.count (total s + 1) (feed s t)
 feed_counts s t = counts_duly s.due s t.kind t.place t.text
 
-none_added : (n : ℕ) → n ≡ n + 0
-none_added n = omega arith
-
--- entries written one list after another
-put_more : (table : List Entry) (n : ℕ) (es fs : List Entry) → put table n (es ++ fs) ≡ put (put table n es) (n + length es) fs
-put_more table n [] fs = ap (λ k. put table k fs) (none_added n)
-put_more table n (e ∷ es) fs =
-    let k : n + 1 + length es ≡ n + suc (length es) = omega arith in
-    put_more (set table n e) (n + 1) es fs ∙ ap (λ j. put (put (set table n e) (n + 1) es) j fs) k
-
 laid_more : (table : List Entry) (n : ℕ) (es : List Entry) (r : Result (List Entry) Refusal) → laid table n (prefixed es r) ≡ laid (put table n es) (n + length es) r
-laid_more table n es (Ok fs) =
-    let k : n + length (es ++ fs) ≡ n + length es + length fs = simp length-append (omega arith) in
-    ap (λ j. Ok (j, put table n (es ++ fs))) k ∙ ap (λ t. Ok (n + length es + length fs, t)) (put_more table n es fs)
-laid_more table n es (Err e) = refl
+laid_more table n es r = grind (arith, put_more, length-append)
 
 -- each token but the last takes a byte
 run_some : (test : ℕ → Bool) (b : ℕ) (bs : List ℕ) → test b ≡ true → 1 ≤ run_of test (b ∷ bs)
-run_some test b bs h = rw (cond-true (test b) (run_of test bs + 1) 0 h) (omega arith)
+run_some test b bs h = grind arith
 
 Moves : TokenKind × ℕ → Type 0
 Moves t = is_last t.0 ≡ false → 1 ≤ t.1
@@ -155,9 +106,7 @@ moves_if false x y f g = g refl
 
 mark_moves : (two one : Option TokenKind) → Moves (mark_by two one)
 unfolding Moves
-mark_moves (Some k) one = λ l. omega arith
-mark_moves None (Some k) = λ l. omega arith
-mark_moves None None = λ l. absurd (true≢false l)
+mark_moves two one = grind arith
 
 begun_moves : (b c : ℕ) (bs : List ℕ) → b ≡ get_or bs 0 0 → 1 ≤ length bs → Moves (begun_with b c bs)
 unfolding Moves
@@ -169,9 +118,7 @@ begun_moves b c (d ∷ bs) e h =
 
 scanned_moves : (bs : List ℕ) → Moves (scanned bs)
 unfolding Moves
-scanned_moves bs =
-    moves_if (eqb (length bs) 0) _ _ (λ h l. absurd (true≢false l))
-    (λ h. let n = eqb-false (length bs) 0 h in begun_moves (get_or bs 0 0) (get_or bs 1 0) bs refl (omega arith))
+scanned_moves bs = grind (arith, begun_moves, eqb-false)
 
 pub token_moves : (text : List ℕ) (p : ℕ) → is_last (lexeme text p).kind ≡ false → p < after text p
 unfolding Moves
@@ -179,8 +126,7 @@ token_moves text p l = let h = scanned_moves (drop (begins text p) text) l in om
 
 -- what a step that was refused, and one that was not, says of the fold
 answered_err : (x : Step) (r : Result (Unit {0}) Refusal) (old new : Parser) (e : Refusal) → Answered x r old new → r ≡ Err e → x ≡ Err e
-answered_err (Ok u) r old new e h was = let q = h.0 in let z : ◌≡◌ {A = ℕ} 0 1 = cc in absurd (omega arith)
-answered_err (Err d) r old new e h was = let q : r ≡ Err d = h in cc
+answered_err x r old new e h was = grind arith
 
 record Went (x : Step) (old new : Parser) : Type 0 where
   pub next : State × List Entry
@@ -197,16 +143,13 @@ counts_ok n most x u h e = subst (Counts n most) e h
 
 -- the tokens from a place on begin with the token there
 feeds_err : (b : Bool) (s : State) (t : Lexeme) (ts : List Lexeme) (e : Refusal) → feed s t ≡ Err e → feeds s (cond b (t ∷ []) (t ∷ ts)) ≡ Err e
-feeds_err true s t ts e h = ap (λ x. followed x (λ u. feeds u [])) h
-feeds_err false s t ts e h = ap (λ x. followed x (λ u. feeds u ts)) h
+feeds_err b s t ts e h = grind arith
 
 feeds_last : (b : Bool) (s : State) (t : Lexeme) (ts : List Lexeme) (u : State × List Entry) → b ≡ true → feed s t ≡ Ok u → feeds s (cond b (t ∷ []) (t ∷ ts)) ≡ Ok u.1
-feeds_last b s t ts u l h =
-    ap (feeds s) (cond-true b (t ∷ []) (t ∷ ts) l) ∙ (ap (λ x. followed x (λ v. feeds v [])) h ∙ ap Ok (append-nil u.1))
+feeds_last b s t ts u l h = grind (arith, append-nil)
 
 feeds_on : (b : Bool) (s : State) (t : Lexeme) (ts : List Lexeme) (u : State × List Entry) → b ≡ false → feed s t ≡ Ok u → feeds s (cond b (t ∷ []) (t ∷ ts)) ≡ prefixed u.1 (feeds u.0 ts)
-feeds_on b s t ts u l h =
-    ap (feeds s) (cond-false b (t ∷ []) (t ∷ ts) l) ∙ ap (λ x. followed x (λ v. feeds v ts)) h
+feeds_on b s t ts u l h = grind arith
 
 -- one turn, at the place p of the text with tokens enough
 module _ (text : List ℕ) (p : ℕ) (old new : Parser) (whole : Result (ℕ × List Entry) Refusal) (within : p ≤ length text) where
@@ -282,25 +225,15 @@ put_fits table n (x ∷ es) h =
 
 -- what the table holds where the answer is a number, and what it is to hold where it is a refusal
 pub left_ok : (x : Result (List Entry) Refusal) (old table : List Entry) (r : Result ℕ Refusal) → paired r table ≡ laid old 0 x → is_err r ≡ false → IfOk r (λ n. n ≤ length old) → table ≡ leaves old x
-left_ok x old table (Err e) h t room = absurd (true≢false t)
-left_ok (Err d) old table (Ok n) h t room = let z : ◌≡◌ {A = ℕ} 0 1 = cc in absurd (omega arith)
-left_ok (Ok es) old table (Ok n) h t room =
-    let pair : ◌≡◌ {A = ℕ × List Entry} (n, table) (0 + length es, put old 0 es) = cc in
-    let same = ap (λ (q : ℕ × List Entry). q.0) pair in
-    let fits : 0 + length es ≤ length old = omega arith in
-    let z : 0 + length es ≡ length es = omega arith in
-    ap (λ (q : ℕ × List Entry). q.1) pair ∙ (put_fits old 0 es fits ∙ ap (λ k. es ++ drop k old) z)
+left_ok (Ok es) old table (Ok n) h t room = let fit = put_fits old 0 es in grind arith
+left_ok x old table r h t room = grind arith
 
 pub left_err : (x : Result (List Entry) Refusal) (old table : List Entry) (r : Result ℕ Refusal) → paired r table ≡ laid old 0 x → is_err r ≡ true → leaves old x ≡ replicate (length old) blank
-left_err x old table (Ok n) h t = absurd (true≢false (sym t))
-left_err (Ok es) old table (Err e) h t = let z : ◌≡◌ {A = ℕ} 0 1 = cc in absurd (omega arith)
-left_err (Err d) old table (Err e) h t = refl
+left_err x old table r h t = grind arith
 
 -- a table of entries that hold nothing is one of blank entries
 pub filled : (old table new : List Entry) (k : Argument) → k.negative ≡ false → k.size ≡ 0 → length table ≡ length old → new ≡ replicate (length table) (entry Blank k 0 0) → new ≡ replicate (length old) blank
-filled old table new k n z long e =
-    e ∙ (ap (λ m. replicate m (entry Blank k 0 0)) long ∙ ap (λ a. replicate (length old) (entry Blank a 0 0)) (same_argument {a = k} {b = plus 0} n z))
+filled old table new k n z long e = let same : k ≡ plus 0 = same_argument n z in cc
 
 pub paired_err : (r : Result ℕ Refusal) (table : List Entry) (e : Refusal) → r ≡ Err e → paired r table ≡ Err e
-paired_err (Ok n) table e h = let z : ◌≡◌ {A = ℕ} 0 1 = cc in absurd (omega arith)
-paired_err (Err d) table e h = let same : d ≡ e = cc in ap Err same
+paired_err r table e h = grind arith

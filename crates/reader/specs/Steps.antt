@@ -1,8 +1,10 @@
 -- The state of the fold that a parser stands for, and how the code keeps step with the fold.
-use Rattle.std.specs.Prelude.{◌≡◌, ℕ, ◌+◌, List, [], ◌∷◌, Ok, Err, Result, slice_set}
+use Rattle.std.specs.Prelude.{◌≡◌, ℕ, ◌+◌, ◌^◌, ◌<◌, List, [], ◌∷◌, Ok, Err, Result, length, slice_set}
 use Rattle.refusal.specs.declared.Refusal.{Refusal}
-use Rattle.language.specs.Fold.{State, state, Step}
+use Rattle.language.specs.Fold.{State, state, Step, ends}
 use Rattle.language.specs.declared.entry.Entry.{Entry}
+use Rattle.language.specs.declared.step.Sequel.{Sequel}
+use Rattle.language.specs.declared.step.Sequel.TheVariants.{Join, Turn, Bring, Shut, Finish}
 use Rattle.reader.specs.Opened.{frames_of}
 use Rattle.reader.specs.Scopes.{held}
 use Rattle.reader.specs.declared.parser.Parser.{Parser}
@@ -20,7 +22,19 @@ abbrev pub Answered : Step → Result (Unit {0}) Refusal → Parser → Parser �
 Answered (Ok u) r old new = (r ≡ Ok tt) × (view new ≡ u.0) × (new.table.now ≡ put old.table.now old.count u.1)
 Answered (Err e) r old new = r ≡ Err e
 
+-- one more entry or frame can be counted
+abbrev pub Room : Parser → Type 0
+Room p = p.count + length (frames_of p.stack) + 1 < 2 ^ 64
+
 -- a step of a parser, which keeps its table
 pub record Stepped (x : Step) (r : Result (Unit {0}) Refusal) (old new : Parser) : Type 0 where
   pub answer : Answered x r old new
   pub same : new.table.ghost_name ≡ old.table.ghost_name
+
+-- the level at which a sequel ends what stands before it
+abbrev pub least_by : Sequel → ℕ
+least_by (Join o) = ends o
+least_by (Turn w) = 0
+least_by Bring = 0
+least_by Shut = 0
+least_by Finish = 0

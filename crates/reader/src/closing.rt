@@ -7,7 +7,7 @@ ghost use Rattle.reader.specs.Lets.{is_value, due_fits};
 ghost use Rattle.reader.specs.Opened.{frames_of};
 ghost use Rattle.reader.specs.Scopes.{held};
 ghost use Rattle.reader.specs.Stacks.{top};
-ghost use Rattle.reader.specs.Steps.{view, Stepped};
+ghost use Rattle.reader.specs.Steps.{view, Room, Stepped};
 
 use crate::kinds::is_body;
 use crate::marks::{ends_at, kind};
@@ -48,7 +48,6 @@ impl<'t, 'a> Parser<'t, 'a> {
         requires fits { due_fits self.old.due (drop 1 (frames_of self.old.stack)) ≡ true }
         ensures view { view self.new ≡ state (drop 1 (frames_of self.old.stack)) (held self.old.pending) (leaving frame.mark (held self.old.scope)) self.old.due self.old.count }
         ensures table { self.new.table ≡ self.old.table }
-        ensures used { length (frames_of self.new.stack) + 1 ≡ length (frames_of self.old.stack) }
     {
         leave(&mut self.scope, frame.mark);
         self.stack.pop();
@@ -56,7 +55,7 @@ impl<'t, 'a> Parser<'t, 'a> {
 
     /// Adds an entry, which the table gets where it has room.
     pub(crate) fn put(&mut self, entry: Entry)
-        requires { self.old.count + 1 < 2 ^ 64 }
+        requires { Room self.old }
         ensures { Stepped (Ok (state (frames_of self.old.stack) (held self.old.pending) (held self.old.scope) self.old.due (self.old.count + 1), entry ∷ [])) (Ok tt) self.old self.new }
     {
         let at = self.count;
@@ -68,7 +67,7 @@ impl<'t, 'a> Parser<'t, 'a> {
 
     /// Ends each frame on top that binds at the level.
     pub(crate) fn close(&mut self, least: usize)
-        requires { self.old.count + length (frames_of self.old.stack) + 1 < 2 ^ 64 }
+        requires { Room self.old }
         ensures { Stepped (Ok (ended least (view self.old), endings least (view self.old))) (Ok tt) self.old self.new }
     {
         while let Some(frame) = self.stack.top() {

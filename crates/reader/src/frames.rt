@@ -46,8 +46,7 @@ impl Stack {
     /// Puts a frame on top.
     pub(crate) fn push(&mut self, frame: Frame)
         requires { opens frame.mark (frames_of self.old) ≡ true }
-        ensures frames { frames_of self.new ≡ frame ∷ frames_of self.old }
-        ensures used { length (frames_of self.new) ≡ length (frames_of self.old) + 1 }
+        ensures { frames_of self.new ≡ frame ∷ frames_of self.old }
     {
         self.depth += usize::from(nests(frame.mark));
         self.frames.push(frame);
@@ -66,8 +65,7 @@ impl Stack {
     pub(crate) fn remark(&mut self, mark: Mark, first: usize)
         requires top { top_nests (frames_of self.old) ≡ true }
         requires mark { nests_by mark ≡ true }
-        ensures frames { frames_of self.new ≡ remarked mark first (frames_of self.old) }
-        ensures used { length (frames_of self.new) ≡ length (frames_of self.old) }
+        ensures { frames_of self.new ≡ remarked mark first (frames_of self.old) }
     {
         if let Some(frame) = self.frames.pop() {
             self.frames.push(Frame {

@@ -7,7 +7,7 @@ ghost use Rattle.reader.specs.Lets.{is_value, due_fits, Opens};
 ghost use Rattle.lexer.specs.Lexing.{plain};
 ghost use Rattle.reader.specs.Opened.{frames_of};
 ghost use Rattle.reader.specs.Stacks.{opens};
-ghost use Rattle.reader.specs.Steps.{view, Stepped};
+ghost use Rattle.reader.specs.Steps.{view, Room, Stepped};
 
 use crate::kinds::{opening, refused};
 use crate::names::Names;
@@ -79,7 +79,7 @@ impl<'t, 'a> Parser<'t, 'a> {
 
     // An operand of one entry.
     fn leaf(&mut self, kind: Kind, number: Argument, place: usize)
-        requires { self.old.count + length (frames_of self.old.stack) + 1 < 2 ^ 64 }
+        requires { Room self.old }
         ensures { Stepped (leaf kind number place (view self.old)) (Ok tt) self.old self.new }
     {
         self.put(Entry {
@@ -93,7 +93,7 @@ impl<'t, 'a> Parser<'t, 'a> {
 
     /// Takes a token where an operand is due.
     pub(crate) fn begin(&mut self, token: Token<'a>) -> Result<(), Refusal>
-        requires { self.old.count + length (frames_of self.old.stack) + 1 < 2 ^ 64 }
+        requires { Room self.old }
         ensures { Stepped (begun (opening_of token.entry.kind) (view self.old) token.entry.kind token.entry.place token.entry.text.now) result self.old self.new }
     {
         let place = token.place;

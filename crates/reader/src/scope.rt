@@ -20,8 +20,7 @@ impl<'a> Names<'a> {
     /// Puts a name on top.
     pub(crate) fn push(&mut self, text: &'a [u8])
         requires { length (held self.old) < 64 }
-        ensures held { held self.new ≡ text.now ∷ held self.old }
-        ensures count { length (held self.new) ≡ length (held self.old) + 1 }
+        ensures { held self.new ≡ text.now ∷ held self.old }
     {
         self.names.push(Name { text });
     }

@@ -1,21 +1,25 @@
 //! The parser where an operand has ended.
 
-ghost use Rattle.std.specs.Prelude.{◌≡◌, ◌+◌, ◌^◌, ◌<◌, ◌≤◌, length, Ok};
-ghost use Rattle.language.specs.Fold.{ends, ended, endings, joined, turned as turned_by, turn_of, in_of, brought, shut, finished, sequel_of, gone_on};
+ghost use Rattle.std.specs.Prelude.{◌≡◌, ◌+◌, ◌^◌, ◌<◌, ◌≤◌, [], length, Ok};
+ghost use Rattle.language.specs.Fold.{ends, joined, turned as turned_by, turn_of, in_of, brought, shut, finished, sequel_of, gone_on};
 ghost use Rattle.std.specs.Option.{ok_or};
+ghost use Rattle.language.specs.Frames.{above};
 ghost use Rattle.reader.specs.Stacks.{top};
 ghost use Rattle.reader.specs.Opened.{frames_of};
-ghost use Rattle.reader.specs.Steps.{view, Stepped};
+ghost use Rattle.reader.specs.Steps.{view, Room, Stepped, least_by};
 
 use crate::kinds::{is_paren, is_value, refused, sequel, turned};
 use crate::parser::Parser;
 use language::{Due, Frame, Mark, Operator, Sequel, Token, Turn};
 use refusal::Refusal;
 
-// The level at which an operator ends what stands before it.
-fn least_of(operator: Operator) -> usize
-    ensures { result ≡ ends operator }
+// The level at which a sequel ends what stands before it.
+fn least_of(sequel: Sequel) -> usize
+    ensures { result ≡ least_by sequel }
 {
+    let Sequel::Join(operator) = sequel else {
+        return 0;
+    };
     let row = operator.row();
     if row.repeats {
         row.level
@@ -27,10 +31,9 @@ fn least_of(operator: Operator) -> usize
 impl<'t, 'a> Parser<'t, 'a> {
     // An operator between two operands.
     fn join(&mut self, operator: Operator, place: usize) -> Result<(), Refusal>
-        requires { self.old.count + length (frames_of self.old.stack) + 1 < 2 ^ 64 }
-        ensures { Stepped (joined operator place (ended (ends operator) (view self.old)) (endings (ends operator) (view self.old))) result self.old self.new }
+        requires { above (frames_of self.old.stack) < ends operator }
+        ensures { Stepped (joined operator place (view self.old) []) result self.old self.new }
     {
-        self.close(least_of(operator));
         if self.stack.above() == operator.row().level {
             return Err(Refusal::Unexpected(place));
         }
@@ -39,20 +42,16 @@ impl<'t, 'a> Parser<'t, 'a> {
         Ok(())
     }
 
-    // The frame on top, once each frame has ended that may.
-    fn innermost(&mut self, place: usize) -> Result<Frame, Refusal>
-        requires { self.old.count + length (frames_of self.old.stack) + 1 < 2 ^ 64 }
-        ensures ended { Stepped (Ok (ended 0 (view self.old), endings 0 (view self.old))) (Ok tt) self.old self.new }
-        ensures top { result ≡ ok_or (top (frames_of self.new.stack)) (Refusal.Unexpected place) }
+    // The frame on top.
+    fn innermost(&self, place: usize) -> Result<Frame, Refusal>
+        ensures { result ≡ ok_or (top (frames_of self.now.stack)) (Refusal.Unexpected place) }
     {
-        self.close(0);
         self.stack.top().ok_or(Refusal::Unexpected(place))
     }
 
     // The next part of an if.
     fn turn(&mut self, turn: Turn, place: usize) -> Result<(), Refusal>
-        requires { self.old.count + length (frames_of self.old.stack) + 1 < 2 ^ 64 }
-        ensures { Stepped (turned_by (turn_of turn) place (ended 0 (view self.old)) (endings 0 (view self.old))) result self.old self.new }
+        ensures { Stepped (turned_by (turn_of turn) place (view self.old) []) result self.old self.new }
     {
         let frame = self.innermost(place)?;
         let mark = turned(turn, frame.mark).ok_or(Refusal::Unexpected(place))?;
@@ -64,8 +63,7 @@ impl<'t, 'a> Parser<'t, 'a> {
 
     // The second expression of a let, in which its name is in scope.
     fn bring(&mut self, place: usize) -> Result<(), Refusal>
-        requires { self.old.count + length (frames_of self.old.stack) + 1 < 2 ^ 64 }
-        ensures { Stepped (brought (turned_by in_of place (ended 0 (view self.old)) (endings 0 (view self.old)))) result self.old self.new }
+        ensures { Stepped (brought (turned_by in_of place (view self.old) [])) result self.old self.new }
     {
         let frame = self.innermost(place)?;
         if !is_value(frame.mark) {
@@ -80,8 +78,7 @@ impl<'t, 'a> Parser<'t, 'a> {
 
     // The end of a parenthesis.
     fn shut(&mut self, place: usize) -> Result<(), Refusal>
-        requires { self.old.count + length (frames_of self.old.stack) + 1 < 2 ^ 64 }
-        ensures { Stepped (shut place (ended 0 (view self.old)) (endings 0 (view self.old))) result self.old self.new }
+        ensures { Stepped (shut place (view self.old) []) result self.old self.new }
     {
         let frame = self.innermost(place)?;
         if !is_paren(frame.mark) {
@@ -92,11 +89,9 @@ impl<'t, 'a> Parser<'t, 'a> {
     }
 
     // The end of the text.
-    fn finish(&mut self, place: usize) -> Result<(), Refusal>
-        requires { self.old.count + length (frames_of self.old.stack) + 1 < 2 ^ 64 }
-        ensures { Stepped (finished place (ended 0 (view self.old)) (endings 0 (view self.old))) result self.old self.new }
+    fn finish(&self, place: usize) -> Result<(), Refusal>
+        ensures { Stepped (finished place (view self.now) []) result self.now self.now }
     {
-        self.close(0);
         match self.stack.top() {
             Some(_) => Err(Refusal::Unexpected(place)),
             None => Ok(()),
@@ -105,13 +100,14 @@ impl<'t, 'a> Parser<'t, 'a> {
 
     /// Takes a token where an operand has ended.
     pub(crate) fn go_on(&mut self, token: Token<'a>) -> Result<(), Refusal>
-        requires { self.old.count + length (frames_of self.old.stack) + 1 < 2 ^ 64 }
+        requires { Room self.old }
         ensures { Stepped (gone_on (sequel_of token.entry.kind) (view self.old) token.entry.kind token.entry.place) result self.old self.new }
     {
         let place = token.place;
         let Some(sequel) = sequel(token.kind) else {
             return Err(refused(token.kind, place));
         };
+        self.close(least_of(sequel));
         match sequel {
             Sequel::Join(operator) => self.join(operator, place),
             Sequel::Turn(word) => self.turn(word, place),

@@ -4,7 +4,7 @@ ghost use Rattle.std.specs.Prelude.{◌≡◌, ◌+◌, ◌^◌, ◌<◌, ◌≤
 ghost use Rattle.language.specs.Fold.{bound, equated, feed};
 ghost use Rattle.lexer.specs.Lexing.{plain};
 ghost use Rattle.reader.specs.Opened.{frames_of};
-ghost use Rattle.reader.specs.Steps.{view, Stepped};
+ghost use Rattle.reader.specs.Steps.{view, Room, Stepped};
 
 use crate::kinds::{is_equal, is_name, refused};
 use crate::parser::Parser;
@@ -40,7 +40,7 @@ impl<'t, 'a> Parser<'t, 'a> {
 
     /// Takes one token, and writes the entries that it ends.
     pub(crate) fn step(&mut self, token: Token<'a>) -> Result<(), Refusal>
-        requires { self.old.count + length (frames_of self.old.stack) + 1 < 2 ^ 64 }
+        requires { Room self.old }
         ensures step { Stepped (feed (view self.old) (plain token.entry)) result self.old self.new }
         ensures same { self.new.table.ghost_name ≡ self.old.table.ghost_name }
     {
