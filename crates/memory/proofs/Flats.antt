@@ -1,10 +1,10 @@
 -- Words in bytes, one read and one written.
-use Rattle.std.proofs.Common.{◌≡◌, ℕ, ◌+◌, ◌-◌, ◌*◌, ◌/◌, ◌<◌, ◌≤◌, true, ltb, List, [], ◌∷◌, ◌++◌, length, get_or, take, Some, sym, ap, ◌∙◌, arith, length-set, length-take, get_or-take}
+use Rattle.std.proofs.Common.{◌≡◌, ℕ, ◌+◌, ◌-◌, ◌*◌, ◌/◌, ◌<◌, ◌≤◌, List, [], ◌∷◌, ◌++◌, length, get_or, take, Some, sym, ap, ◌∙◌, arith, length-set, length-take, get_or-take}
 use Rattle.std.specs.List.{slice_get}
 use Rattle.std.specs.Simd.{first_chunks}
 use Rattle.std.proofs.lemmas.List.FromFn.{length-map-range_with_len, get_or-map-range_with_len, map-range_with_len_more}
 use Rattle.std.proofs.lemmas.Option.{slice_get-get_or}
-use Rattle.std.proofs.lemmas.Bool.{lt-ltb, le-ltb, cond-true, cond-false}
+use Rattle.std.proofs.lemmas.Bool.Decides.{nat_tests}
 use borrow.Rule.Slice.PartMut.{put_mid}
 use Rattle.bytecode.specs.declared.instruction.Word.{Word}
 use Rattle.bytecode.specs.Words.{bytes_of}
@@ -50,17 +50,17 @@ module _ (bytes : List ℕ) (n place : ℕ) (part : List ℕ) (w : Word) (is : p
 
   pub added_listed : words (put_mid (3 * place) (3 * place + 3 - 3 * place) bytes part) (n + 1) ≡ appended (words bytes n) (room_in bytes) w
   added_listed =
-      let same : place ≡ n = is ∙ length_words bytes n in
-      let t : ltb (length (words bytes n)) (room_in bytes) ≡ true = rw length_words (lt-ltb n (room_in bytes) (omega arith)) in
-      ap (λ after. words after (n + 1)) added ∙ (words_put bytes n w (omega arith) ∙ sym (cond-true _ (words bytes n ++ w ∷ []) (words bytes n) t))
+      let count = length_words bytes n in
+      let put_there = added in
+      let listed = words_put bytes n w (omega arith) in
+      grind (arith, nat_tests)
 
   pub added_written : put_mid (3 * place) (3 * place + 3 - 3 * place) bytes part ≡ put_in bytes n w
-  added_written =
-      let same : place ≡ n = is ∙ length_words bytes n in
-      added ∙ sym (cond-true _ (put bytes (3 * n) w) bytes (lt-ltb n (room_in bytes) (omega arith)))
+  added_written = let count = length_words bytes n in let put_there = added in grind (arith, nat_tests)
 
 -- nothing is written where there is no room
 pub full_written : (bytes : List ℕ) (n : ℕ) (w : Word) → n ≡ room_in bytes → bytes ≡ put_in bytes n w
-full_written bytes n w e = sym (cond-false _ (put bytes (3 * n) w) bytes (le-ltb _ _ (omega arith)))
+full_written bytes n w e = grind (arith, nat_tests)
 
+-- what the check is told of a flat memory
 pub ruleset flats = (length_words, added_fits, added_listed, added_written, full_written)

@@ -1,5 +1,5 @@
 -- Appending, clearing and reading, on the bytes of a memory.
-use Rattle.std.proofs.Common.{◌≡◌, ℕ, ◌+◌, ◌-◌, ◌*◌, ◌/◌, ◌%◌, ◌<◌, ◌≤◌, true, ltb, List, [], ◌∷◌, ◌++◌, map, length, get_or, Some, None, Ok, Err, sym, refl, ap, ◌∙◌, subst, inl, inr, add-one, arith, length-set, length-take, length-drop}
+use Rattle.std.proofs.Common.{◌≡◌, ℕ, ◌+◌, ◌-◌, ◌*◌, ◌/◌, ◌%◌, ◌<◌, ◌≤◌, ltb, List, [], ◌∷◌, ◌++◌, map, length, get_or, Some, None, sym, refl, ap, ◌∙◌, subst, inl, inr, add-one, arith, length-set, length-take, length-drop}
 use mathlib.Core.Logic.{∥∥₁_elim, ∥∥₁_map}
 use native.Mathlib.Bridge.{le_prop}
 use native.Mathlib.Nat.{ℕ_set}
@@ -12,7 +12,6 @@ use Rattle.bytecode.specs.declared.instruction.Word.{Word}
 use Rattle.std.specs.Simd.{first_chunks}
 use borrow.Rule.Slice.PartMut.{mid_of}
 use Rattle.bytecode.specs.Words.{bytes_of}
-use Rattle.refusal.specs.declared.Refusal.TheVariants.{MemoryFull}
 use Rattle.memory.specs.Bytes.{word_at}
 use Rattle.memory.proofs.Bytes.{alike, beside, part_word, copied_put, chunk_word}
 use Rattle.records.specs.Layout.{next, first_free, count, records_for, reached, spot, code_at, code, Linked, Formed}
@@ -193,7 +192,8 @@ module _ (bytes after : List ℕ) (w : Word) (last fresh : ℕ) (s : Stands byte
   pub appends : Appends bytes w after fresh
   appends =
       let more = append_more in
-      let room : ltb (length (code bytes)) 315 ≡ true = ap (λ n. ltb n 315) (length_code bytes) ∙ lt-ltb _ _ less in
+      let count_is = length_code bytes in
+      let listed = append_code in
       record {
         stands =
             record {
@@ -204,8 +204,8 @@ module _ (bytes after : List ℕ) (w : Word) (last fresh : ℕ) (s : Stands byte
               ends = append_ends;
             };
         stays = append_stays;
-        answer = sym (cond-true (ltb (length (code bytes)) 315) (Ok tt) (Err (MemoryFull 315)) room);
-        after = append_code ∙ sym (cond-true (ltb (length (code bytes)) 315) (code bytes ++ w ∷ []) (code bytes) room);
+        answer = grind (arith, nat_tests);
+        after = grind (arith, nat_tests);
         written = is ∙ (ap (λ k. added bytes k w) s.ends ∙ sym (cond-true (ltb (count bytes) 315) _ bytes (lt-ltb _ _ less)));
       }
 
