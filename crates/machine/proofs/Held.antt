@@ -1,7 +1,8 @@
 -- The words of a slice from the base to a height, the top first, and those above.
-use Rattle.std.proofs.Common.{◌≡◌, ℕ, zero, suc, ◌+◌, ◌-◌, ◌≤◌, List, [], ◌∷◌, ◌++◌, reverse, length, take, drop, set, sym, refl, ap, ◌∙◌, arith, append_assoc, length-drop, take-append-drop}
+use Rattle.std.proofs.Common.{◌≡◌, ℕ, zero, suc, ◌+◌, ◌-◌, ◌<◌, ◌≤◌, List, [], ◌∷◌, ◌++◌, reverse, length, take, drop, set, sym, refl, ap, ◌∙◌, arith, append_assoc, length-drop, take-append-drop}
 use Rattle.std.proofs.lemmas.List.{take_at, drop_at, set_split, take-take, drop-append-le, length-take-le, length-reverse, reverse-append, reverse-reverse}
 use Rattle.std.proofs.Math.Seq.{take-set-lt}
+use Rattle.std.proofs.lemmas.Grind.{common_steps}
 use Rattle.machine.specs.Steps.{freed}
 use Rattle.machine.specs.Runs.{held}
 
@@ -43,19 +44,22 @@ module _ {W : Type 0} where
       let f = length-drop base (take h xs) in
       length-reverse (drop base (take h xs)) ∙ omega arith
 
-  module _ (xs : List W) (h : ℕ) (fits : h ≤ length xs) where
-    pub held_set : (at k : ℕ) (v : W) → at + (k + 1) ≡ h → set (held xs 0 h) k v ≡ held (set xs at v) 0 h
-    held_set at k v is =
-        set_reverse at k (take h xs) v (is ∙ sym (length-take-le h xs fits)) ∙ sym (ap reverse (take-set-lt h xs at v (omega arith)))
+  module _ (xs : List W) (h k : ℕ) (fits : h ≤ length xs) where
+    pub held_set : (v : W) → k < h → set (held xs 0 h) k v ≡ held (set xs (h - (k + 1)) v) 0 h
+    held_set v some =
+        set_reverse (h - (k + 1)) k (take h xs) v (omega (arith, length-take-le h xs fits))
+        ∙ sym (ap reverse (take-set-lt h xs (h - (k + 1)) v (omega arith)))
 
     -- words taken off are unused words
-    pub held_drop : (low k : ℕ) → low + k ≡ h → drop k (held xs 0 h) ≡ held xs 0 low
-    held_drop low k is = drop_reverse low k (take h xs) (is ∙ sym (length-take-le h xs fits)) ∙ ap reverse (take-take low h xs (omega arith))
+    pub held_drop : k ≤ h → drop k (held xs 0 h) ≡ held xs 0 (h - k)
+    held_drop some = drop_reverse (h - k) k (take h xs) (omega (arith, length-take-le h xs fits)) ∙ ap reverse (take-take (h - k) h xs (omega arith))
 
-    pub held_freed : (low k : ℕ) → low + k ≡ h → freed k (held xs 0 h) (drop h xs) ≡ drop low xs
-    held_freed low k is =
+    pub held_freed : k ≤ h → freed k (held xs 0 h) (drop h xs) ≡ drop (h - k) xs
+    held_freed some =
         freed_all k (held xs 0 h) (drop h xs)
-        ∙ ap (λ ys. reverse ys ++ drop h xs) (take_reverse low k (take h xs) (is ∙ sym (length-take-le h xs fits)))
-        ∙ ap (λ ys. ys ++ drop h xs) (reverse-reverse (drop low (take h xs)))
-        ∙ sym (drop-append-le low (take h xs) (drop h xs) (omega (arith, length-take-le h xs fits)))
-        ∙ ap (drop low) (take-append-drop h xs)
+        ∙ ap (λ ys. reverse ys ++ drop h xs) (take_reverse (h - k) k (take h xs) (omega (arith, length-take-le h xs fits)))
+        ∙ ap (λ ys. ys ++ drop h xs) (reverse-reverse (drop (h - k) (take h xs)))
+        ∙ sym (drop-append-le (h - k) (take h xs) (drop h xs) (omega (arith, length-take-le h xs fits)))
+        ∙ ap (drop (h - k)) (take-append-drop h xs)
+
+pub ruleset held_steps = (common_steps, length-held, held_set, held_drop, held_freed)

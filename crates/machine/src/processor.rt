@@ -97,6 +97,7 @@ impl<W: Copy> Processor<'_, W> {
     }
 
     /// Overwrites the word that lies `k` below the top.
+    #[tactic(auto, using(crate::proofs::Held::held_steps))]
     pub(crate) fn assign(&mut self, k: u8) -> Result<(), Refusal>
         ensures { Did (assigned k self.old.next) self.old self.new result }
     {
@@ -106,6 +107,7 @@ impl<W: Copy> Processor<'_, W> {
     }
 
     /// Takes `k` words off.
+    #[tactic(auto, using(crate::proofs::Held::held_steps))]
     pub(crate) fn discard(&mut self, k: u8) -> Result<(), Refusal>
         ensures { Did (dropped k self.old.next) self.old self.new result }
     {

@@ -65,6 +65,7 @@ fn run_above<M: CodeMemory, A: Arithmetic>(
 
 /// Runs the code from place 0, with the word for 0 in the accumulator and `height` words above the base, until the place is
 /// the end of the code. A refusal says at which word it came; what the steps before it wrote stands.
+#[tactic(auto, using(crate::proofs::Bases::based, std::proofs::lemmas::Grind::common_steps))]
 pub fn run<M: CodeMemory, A: Arithmetic>(
     memory: &mut M,
     stack: &mut [A::Word],
