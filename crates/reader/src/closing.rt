@@ -9,7 +9,6 @@ ghost use Rattle.reader.specs.Scopes.{held};
 ghost use Rattle.reader.specs.Stacks.{top};
 ghost use Rattle.reader.specs.Steps.{view, Room, Stepped};
 
-use crate::kinds::is_body;
 use crate::marks::{ends_at, kind};
 use crate::names::Names;
 use crate::parser::Parser;
@@ -22,7 +21,7 @@ fn leave(scope: &mut Names<'_>, mark: Mark)
     ensures held { held scope.new ≡ leaving mark (held scope.old) }
     ensures count { length (held scope.new) + (if is_body mark then 1 else 0) ≡ length (held scope.old) }
 {
-    if is_body(mark) {
+    if mark == Mark::Body {
         scope.pop();
     }
 }

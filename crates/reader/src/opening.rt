@@ -101,19 +101,17 @@ impl<'t, 'a> Parser<'t, 'a> {
             return Err(refused(token.kind, place));
         };
         match opening {
-            Opening::Leaf(kind, number) => {
-                self.leaf(kind, number, place);
-                Ok(())
+            Opening::Leaf(kind, number) => self.leaf(kind, number, place),
+            Opening::Name => {
+                let i = self
+                    .scope
+                    .position(token.text)
+                    .ok_or(Refusal::UnboundName(place))?;
+                self.leaf(Kind::Name, Argument::plus(i as u8), place);
             }
-            Opening::Name => match self.scope.position(token.text) {
-                Some(i) => {
-                    self.leaf(Kind::Name, Argument::plus(i as u8), place);
-                    Ok(())
-                }
-                None => Err(Refusal::UnboundName(place)),
-            },
-            Opening::Nested(mark) => self.enter(mark, place, Due::Operand),
-            Opening::Whole(mark, due) => self.enter_whole(mark, place, due),
+            Opening::Nested(mark) => self.enter(mark, place, Due::Operand)?,
+            Opening::Whole(mark, due) => self.enter_whole(mark, place, due)?,
         }
+        Ok(())
     }
 }

@@ -8,7 +8,7 @@ ghost use Rattle.reader.specs.Stacks.{top};
 ghost use Rattle.reader.specs.Opened.{frames_of};
 ghost use Rattle.reader.specs.Steps.{view, Room, Stepped, least_by};
 
-use crate::kinds::{is_paren, is_value, refused, sequel, turned};
+use crate::kinds::{refused, sequel, turned};
 use crate::parser::Parser;
 use language::{Due, Frame, Mark, Operator, Sequel, Token, Turn};
 use refusal::Refusal;
@@ -66,7 +66,7 @@ impl<'t, 'a> Parser<'t, 'a> {
         ensures { Stepped (brought (turned_by in_of place (view self.old) [])) result self.old self.new }
     {
         let frame = self.innermost(place)?;
-        if !is_value(frame.mark) {
+        if frame.mark != Mark::Value {
             return Err(Refusal::Unexpected(place));
         }
         let first = self.count;
@@ -81,7 +81,7 @@ impl<'t, 'a> Parser<'t, 'a> {
         ensures { Stepped (shut place (view self.old) []) result self.old self.new }
     {
         let frame = self.innermost(place)?;
-        if !is_paren(frame.mark) {
+        if frame.mark != Mark::Paren {
             return Err(Refusal::Unexpected(place));
         }
         self.pop(frame);

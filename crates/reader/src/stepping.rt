@@ -6,9 +6,9 @@ ghost use Rattle.lexer.specs.Lexing.{plain};
 ghost use Rattle.reader.specs.Opened.{frames_of};
 ghost use Rattle.reader.specs.Steps.{view, Room, Stepped};
 
-use crate::kinds::{is_equal, is_name, refused};
+use crate::kinds::refused;
 use crate::parser::Parser;
-use language::{Due, Mark, Token};
+use language::{Due, Mark, Operator, Token, TokenKind};
 use refusal::Refusal;
 
 impl<'t, 'a> Parser<'t, 'a> {
@@ -17,7 +17,7 @@ impl<'t, 'a> Parser<'t, 'a> {
         requires { self.old.due ≡ Due.Binder }
         ensures { Stepped (bound (view self.old) token.entry.kind token.entry.place token.entry.text.now) result self.old self.new }
     {
-        if !is_name(token.kind) {
+        if token.kind != TokenKind::Name {
             return Err(refused(token.kind, token.place));
         }
         let first = self.count;
@@ -31,7 +31,7 @@ impl<'t, 'a> Parser<'t, 'a> {
     fn equate(&mut self, token: Token<'a>) -> Result<(), Refusal>
         ensures { Stepped (equated (view self.old) token.entry.kind token.entry.place) result self.old self.new }
     {
-        if !is_equal(token.kind) {
+        if token.kind != TokenKind::Binary(Operator::Equal) {
             return Err(refused(token.kind, token.place));
         }
         self.due = Due::Operand;
