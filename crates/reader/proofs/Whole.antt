@@ -6,7 +6,7 @@ use Rattle.refusal.specs.declared.Refusal.{Refusal}
 use Rattle.bytecode.specs.Words.{plus}
 use Rattle.bytecode.specs.declared.argument.Argument.{Argument}
 use Rattle.bytecode.proofs.Words.{same_argument}
-use Rattle.language.specs.Fold.{State, Step, named, enter, begun_by, begun, remarked, bound, ended, endings, ends, joined, turn_to, turn_top, brought, shut_top, finish_top, gone_on_by, gone_on, duly, feed, feeds, prefixed}
+use Rattle.language.specs.Fold.{State, Step, begun_by, begun, remarked, bound, ended, endings, ends, joined, turn_to, turn_top, brought, shut_top, finish_top, gone_on_by, gone_on, duly, feed, feeds, prefixed}
 use Rattle.language.specs.Frames.{left, closed}
 use Rattle.language.specs.Reading.{is_last, tokens_from, leaves}
 use Rattle.language.specs.Tree.{entry, blank}
@@ -34,12 +34,6 @@ total s = s.count + length s.frames
 abbrev Counts : ℕ → ℕ → Step → Type 0
 Counts n most (Ok u) = (u.0.count ≡ n + length u.1) × (total u.0 ≤ most)
 Counts n most (Err e) = Unit {0}
-
-counts_named : (o : Option ℕ) (p : ℕ) (s : State) → Counts s.count (total s + 1) (named o p s)
-counts_named o p s = grind arith
-
-counts_enter : (m : Mark) (p : ℕ) (d : Due) (s : State) → Counts s.count (total s + 1) (enter m p d s)
-counts_enter m p d s = grind arith
 
 counts_begun_by : (o : Opening) (s : State) (p : ℕ) (x : List ℕ) → Counts s.count (total s + 1) (begun_by o s p x)
 counts_begun_by o s p x = grind arith
@@ -146,9 +140,6 @@ counts_ok n most x u h e = subst (Counts n most) e h
 feeds_err : (b : Bool) (s : State) (t : Lexeme) (ts : List Lexeme) (e : Refusal) → feed s t ≡ Err e → feeds s (cond b (t ∷ []) (t ∷ ts)) ≡ Err e
 feeds_err b s t ts e h = grind arith
 
-feeds_last : (b : Bool) (s : State) (t : Lexeme) (ts : List Lexeme) (u : State × List Entry) → b ≡ true → feed s t ≡ Ok u → feeds s (cond b (t ∷ []) (t ∷ ts)) ≡ Ok u.1
-feeds_last b s t ts u l h = grind (arith, append-nil)
-
 feeds_on : (b : Bool) (s : State) (t : Lexeme) (ts : List Lexeme) (u : State × List Entry) → b ≡ false → feed s t ≡ Ok u → feeds s (cond b (t ∷ []) (t ∷ ts)) ≡ prefixed u.1 (feeds u.0 ts)
 feeds_on b s t ts u l h = grind arith
 
@@ -178,12 +169,9 @@ module _ (text : List ℕ) (l : Lexer) (old new : Parser) (whole : Result (ℕ �
   turn_last zero fuel inv t r o is step was last = let w = within in absurd (omega arith)
   turn_last (suc k) fuel inv t r o is step was last =
       let w = answered_ok (feed s t) r old new o step.answer was in
-      let u = w.next in
-      let x : feed s (lexeme text p) ≡ Ok u = ap (feed s) (sym (at_text t is)) ∙ w.was in
-      let ends : is_last (lexeme text p).kind ≡ true = ap (λ y. is_last y.kind) (sym (at_text t is)) ∙ last in
-      let c : new.count ≡ old.count + length u.1 = ap (λ (y : State). y.count) w.state ∙ (counts_ok s.count (total s + 1) (feed s (lexeme text p)) u (feed_counts s (lexeme text p)) x).0 in
-      ap (λ y. Ok (y, new.table.now)) c ∙ (ap (λ y. Ok (old.count + length u.1, y)) w.written
-      ∙ (sym (ap (laid old.table.now old.count) (feeds_last (is_last (lexeme text p).kind) s (lexeme text p) (tokens_from k text (after text p)) u ends x)) ∙ inv))
+      let here = at_text t is in
+      let c = (counts_ok s.count (total s + 1) (feed s t) w.next (feed_counts s t) w.was).0 in
+      grind (arith, append-nil)
 
   -- what a step leaves where another token follows
   pub record Turned : Type 0 where

@@ -15,17 +15,6 @@ use crate::parser::Parser;
 use bytecode::Argument;
 use language::{Entry, Frame, Mark};
 
-// Takes the name of a let that ends out of scope.
-fn leave(scope: &mut Names<'_>, mark: Mark)
-    requires { (if is_body mark then 1 else 0) ≤ length (held scope.old) }
-    ensures held { held scope.new ≡ leaving mark (held scope.old) }
-    ensures count { length (held scope.new) + (if is_body mark then 1 else 0) ≡ length (held scope.old) }
-{
-    if mark == Mark::Body {
-        scope.pop();
-    }
-}
-
 // The entry that a frame becomes after that many entries.
 fn entry_of(frame: Frame, count: usize) -> Entry
     requires { count + 1 < 2 ^ 64 }
@@ -40,7 +29,7 @@ fn entry_of(frame: Frame, count: usize) -> Entry
 }
 
 impl<'t, 'a> Parser<'t, 'a> {
-    /// Takes the frame on top off.
+    /// Takes the frame on top off, and the name of a let that so ends out of scope.
     pub(crate) fn pop(&mut self, frame: Frame)
         requires top { top (frames_of self.old.stack) ≡ Some frame }
         requires no_value { is_value frame.mark ≡ false }
@@ -48,7 +37,9 @@ impl<'t, 'a> Parser<'t, 'a> {
         ensures view { view self.new ≡ state (drop 1 (frames_of self.old.stack)) (held self.old.pending) (leaving frame.mark (held self.old.scope)) self.old.due self.old.count }
         ensures table { self.new.table ≡ self.old.table }
     {
-        leave(&mut self.scope, frame.mark);
+        if frame.mark == Mark::Body {
+            self.scope.pop();
+        }
         self.stack.pop();
     }
 

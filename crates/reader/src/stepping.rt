@@ -41,8 +41,7 @@ impl<'t, 'a> Parser<'t, 'a> {
     /// Takes one token, and writes the entries that it ends.
     pub(crate) fn step(&mut self, token: Token<'a>) -> Result<(), Refusal>
         requires { Room self.old }
-        ensures step { Stepped (feed (view self.old) (plain token.entry)) result self.old self.new }
-        ensures same { self.new.table.ghost_name ≡ self.old.table.ghost_name }
+        ensures { Stepped (feed (view self.old) (plain token.entry)) result self.old self.new }
     {
         match self.due {
             Due::Operand => self.begin(token),

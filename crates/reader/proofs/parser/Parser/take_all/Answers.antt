@@ -30,14 +30,14 @@ returns-in_err-step-clause-written c =
     let inv = c.loop.invariant.3 in
     let same = c.loop.invariant.1 in
     let p = err_from_is_err_and c.from_residual.result c.from_residual.ensures.1 in
-    let e = turn_err c.args.text.now c.loop.lexer c.loop.self c.step.new.self _ same inv.0 inv.1 inv.2 (plain c.next-token.result) c.step.result _ c.next-token.ensures.token c.step.ensures.step c.in_err-step.was in
+    let e = turn_err c.args.text.now c.loop.lexer c.loop.self c.step.new.self _ same inv.0 inv.1 inv.2 (plain c.next-token.result) c.step.result _ c.next-token.ensures.token c.step.ensures c.in_err-step.was in
     paired_err _ _ _ (p.1 ∙ ap Err p.2) ∙ e
 
 pub returns-then-is_last-clause-written : goal.returns-then-is_last-clause-written
 returns-then-is_last-clause-written c =
     let inv = c.loop.invariant.3 in
     let same = c.loop.invariant.1 in
-    turn_last c.args.text.now c.loop.lexer c.loop.self c.step.new.self _ same inv.0 inv.1 inv.2 (plain c.next-token.result) c.step.result _ c.next-token.ensures.token c.step.ensures.step c.in_ok-step.was (sym c.if-is_last.ensures)
+    turn_last c.args.text.now c.loop.lexer c.loop.self c.step.new.self _ same inv.0 inv.1 inv.2 (plain c.next-token.result) c.step.result _ c.next-token.ensures.token c.step.ensures c.in_ok-step.was (sym c.if-is_last.ensures)
 
 -- a token that is not the last takes a byte
 moved : (c : goal.Else-is_last) → c.loop.lexer.at < c.next-token.new.self.at
@@ -59,7 +59,7 @@ loop-preserved c =
     let same = c.loop.invariant.1 in
     let m = moved c in
     let to : after c.args.text.now c.loop.lexer.at ≡ c.next-token.new.self.at = ap (λ xs. after xs c.loop.lexer.at) (sym same) ∙ sym c.next-token.ensures.moved in
-    let on = turn_on c.args.text.now c.loop.lexer c.loop.self c.step.new.self _ same inv.0 inv.1 inv.2 (plain c.next-token.result) c.step.result _ c.next-token.ensures.token c.step.ensures.step c.in_ok-step.was (sym c.if-is_last.ensures) in (
+    let on = turn_on c.args.text.now c.loop.lexer c.loop.self c.step.new.self _ same inv.0 inv.1 inv.2 (plain c.next-token.result) c.step.result _ c.next-token.ensures.token c.step.ensures c.in_ok-step.was (sym c.if-is_last.ensures) in (
       on.kept ∙ c.loop.invariant.0,
       ap (λ x. x.now) c.next-token.ensures.same ∙ same,
       omega (arith, on.room, c.loop.invariant.2),
