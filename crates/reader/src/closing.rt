@@ -1,11 +1,10 @@
 //! The end of frames: their entries go into the table, as far as it has room.
 
-ghost use Rattle.std.specs.Prelude.{◌≡◌, ◌+◌, ◌^◌, ◌<◌, ◌≤◌, true, false, [], ◌∷◌, drop, length, if◌then◌else◌, Some, Ok};
+ghost use Rattle.std.specs.Prelude.{◌≡◌, ◌+◌, ◌^◌, ◌<◌, true, false, [], ◌∷◌, drop, Some, Ok};
 ghost use Rattle.language.specs.Fold.{state, ended, endings};
-ghost use Rattle.language.specs.Frames.{is_body, joint, leaving};
+ghost use Rattle.language.specs.Frames.{joint, leaving};
 ghost use Rattle.reader.specs.Lets.{is_value, due_fits};
 ghost use Rattle.reader.specs.Opened.{frames_of};
-ghost use Rattle.reader.specs.Scopes.{held};
 ghost use Rattle.reader.specs.Stacks.{top};
 ghost use Rattle.reader.specs.Steps.{view, Room, Stepped};
 
@@ -34,7 +33,7 @@ impl<'t, 'a> Parser<'t, 'a> {
         requires top { top (frames_of self.old.stack) ≡ Some frame }
         requires no_value { is_value frame.mark ≡ false }
         requires fits { due_fits self.old.due (drop 1 (frames_of self.old.stack)) ≡ true }
-        ensures view { view self.new ≡ state (drop 1 (frames_of self.old.stack)) (held self.old.pending) (leaving frame.mark (held self.old.scope)) self.old.due self.old.count }
+        ensures view { let s = view self.old in view self.new ≡ state (drop 1 s.frames) s.pending (leaving frame.mark s.scope) s.due s.count }
         ensures table { self.new.table ≡ self.old.table }
     {
         if frame.mark == Mark::Body {
@@ -46,7 +45,7 @@ impl<'t, 'a> Parser<'t, 'a> {
     /// Adds an entry, which the table gets where it has room.
     pub(crate) fn put(&mut self, entry: Entry)
         requires { Room self.old }
-        ensures { Stepped (Ok (state (frames_of self.old.stack) (held self.old.pending) (held self.old.scope) self.old.due (self.old.count + 1), entry ∷ [])) (Ok tt) self.old self.new }
+        ensures { let s = view self.old in Stepped (Ok (state s.frames s.pending s.scope s.due (s.count + 1), entry ∷ [])) (Ok tt) self.old self.new }
     {
         let at = self.count;
         if at < self.table.len() {

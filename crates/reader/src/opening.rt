@@ -1,10 +1,9 @@
 //! The parser where an operand is due.
 
-ghost use Rattle.std.specs.Prelude.{◌≡◌, ◌+◌, ◌^◌, ◌<◌, ◌≤◌, true, false, [], ◌∷◌, Ok, length};
+ghost use Rattle.std.specs.Prelude.{◌≡◌, true, false, [], ◌∷◌, Ok};
 ghost use Rattle.language.specs.Fold.{fresh, leaf, opened, enter, enter_whole, opening_of, begun};
 ghost use Rattle.language.specs.Frames.{is_body, frame};
 ghost use Rattle.reader.specs.Lets.{is_value, due_fits, Opens};
-ghost use Rattle.lexer.specs.Lexing.{plain};
 ghost use Rattle.reader.specs.Opened.{frames_of};
 ghost use Rattle.reader.specs.Stacks.{opens};
 ghost use Rattle.reader.specs.Steps.{view, Room, Stepped};
@@ -43,12 +42,11 @@ impl<'t, 'a> Parser<'t, 'a> {
         ensures view { view self.new ≡ opened mark place whole due (view self.old) }
         ensures table { self.new.table ≡ self.old.table }
     {
-        let first = self.count;
         self.stack.push(Frame {
             mark,
             place,
             whole,
-            first,
+            first: self.count,
         });
         self.due = due;
     }
@@ -61,8 +59,7 @@ impl<'t, 'a> Parser<'t, 'a> {
         if self.stack.depth >= 64 {
             return Err(Refusal::TooDeep(place));
         }
-        let whole = self.count;
-        self.push(mark, place, whole, due);
+        self.push(mark, place, self.count, due);
         Ok(())
     }
 

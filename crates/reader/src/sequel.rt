@@ -1,6 +1,6 @@
 //! The parser where an operand has ended.
 
-ghost use Rattle.std.specs.Prelude.{◌≡◌, ◌+◌, ◌^◌, ◌<◌, ◌≤◌, [], length, Ok};
+ghost use Rattle.std.specs.Prelude.{◌≡◌, ◌<◌, []};
 ghost use Rattle.language.specs.Fold.{ends, joined, turned as turned_by, turn_of, in_of, brought, shut, finished, sequel_of, gone_on};
 ghost use Rattle.std.specs.Option.{ok_or};
 ghost use Rattle.language.specs.Frames.{above};
@@ -55,8 +55,7 @@ impl<'t, 'a> Parser<'t, 'a> {
     {
         let frame = self.innermost(place)?;
         let mark = turned(turn, frame.mark).ok_or(Refusal::Unexpected(place))?;
-        let first = self.count;
-        self.stack.remark(mark, first);
+        self.stack.remark(mark, self.count);
         self.due = Due::Operand;
         Ok(())
     }
@@ -69,8 +68,7 @@ impl<'t, 'a> Parser<'t, 'a> {
         if frame.mark != Mark::Value {
             return Err(Refusal::Unexpected(place));
         }
-        let first = self.count;
-        self.stack.remark(Mark::Body, first);
+        self.stack.remark(Mark::Body, self.count);
         self.pending.hand_over(&mut self.scope);
         self.due = Due::Operand;
         Ok(())

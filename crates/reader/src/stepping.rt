@@ -1,9 +1,8 @@
 //! One step of the parser.
 
-ghost use Rattle.std.specs.Prelude.{◌≡◌, ◌+◌, ◌^◌, ◌<◌, ◌≤◌, length};
+ghost use Rattle.std.specs.Prelude.{◌≡◌};
 ghost use Rattle.language.specs.Fold.{bound, equated, feed};
 ghost use Rattle.lexer.specs.Lexing.{plain};
-ghost use Rattle.reader.specs.Opened.{frames_of};
 ghost use Rattle.reader.specs.Steps.{view, Room, Stepped};
 
 use crate::kinds::refused;
@@ -20,9 +19,8 @@ impl<'t, 'a> Parser<'t, 'a> {
         if token.kind != TokenKind::Name {
             return Err(refused(token.kind, token.place));
         }
-        let first = self.count;
         self.pending.push(token.text);
-        self.stack.remark(Mark::Value, first);
+        self.stack.remark(Mark::Value, self.count);
         self.due = Due::Equals;
         Ok(())
     }
