@@ -1,15 +1,16 @@
 -- Operators find room, and so do the names of lets.
-use Rattle.std.proofs.Common.{◌≡◌, ℕ, ◌<◌, ◌≤◌, Bool, true, false, List, [], ◌∷◌, Some, Option, Ok, sym, ap, ◌∙◌, subst, arith}
-use Rattle.std.specs.Option.{ok_or}
+use Rattle.std.proofs.Common.{◌≡◌, ℕ, ◌<◌, ◌≤◌, Bool, true, false, List, [], ◌∷◌, Some, arith}
 use Rattle.std.proofs.lemmas.Bool.{cond_both, leb-false}
-use Rattle.language.specs.Fold.{ends, remarked, turn_of}
+use Rattle.language.specs.Fold.{ends}
 use Rattle.language.specs.Frames.{level_by, above, binds, left, nests, deep, is_body}
 use Rattle.language.specs.declared.frame.Frame.{Frame}
 use Rattle.language.specs.declared.frame.Mark.{Mark}
 use Rattle.language.specs.declared.operator.Operator.{Operator}
-use Rattle.language.specs.declared.step.Turn.{Turn}
+use Rattle.language.specs.declared.step.Sequel.{Sequel}
+use Rattle.language.specs.declared.step.Sequel.TheVariants.{Join, Turn as TurnTo, Bring, Shut, Finish}
 use Rattle.reader.specs.Lets.{is_value, is_binder, counted, values, bodies, top_binds}
 use Rattle.reader.specs.Stacks.{top}
+use Rattle.reader.specs.Steps.{Low, least_by}
 
 -- what does not end at a level holds less tightly than it
 looser : (k : ℕ) (m : Mark) → 1 ≤ k → k ≤ 6 → binds k m ≡ false → level_by m < k
@@ -27,19 +28,12 @@ ends_high : (o : Operator) → ends o ≤ 6
 ends_high o = grind arith
 
 -- what an operator leaves open holds less tightly than it ends
-pub operator_low : (o : Operator) (k : ℕ) (fs gs : List Frame) → k ≡ ends o → gs ≡ left k fs → above gs < ends o
-operator_low o k fs gs same e = let low = left_above (ends o) fs (ends_low o) (ends_high o) in subst (λ hs. above hs < ends o) (sym (e ∙ ap (λ n. left n fs) same)) low
-
--- what was there if there was no refusal
-pub was_some : {X E : Type 0} (o : Option X) (e : E) (x : X) → ok_or o e ≡ Ok x → o ≡ Some x
-was_some o e x h = grind arith
-
--- the words of an if make no let
-pub turn_values : (w : Turn) (fs : List Frame) (f : Frame) (m : Mark) (k : ℕ) → top fs ≡ Some f → turn_of w f.mark ≡ Some m → values (remarked m k fs) ≡ values fs
-turn_values w fs f m k t e = grind arith
-
-pub turn_bodies : (w : Turn) (fs : List Frame) (f : Frame) (m : Mark) (k : ℕ) → top fs ≡ Some f → turn_of w f.mark ≡ Some m → bodies (remarked m k fs) ≡ bodies fs
-turn_bodies w fs f m k t e = grind arith
+pub low_left : (q : Sequel) (fs : List Frame) → Low q (left (least_by q) fs)
+low_left (Join o) fs = left_above (ends o) fs (ends_low o) (ends_high o)
+low_left (TurnTo w) fs = tt
+low_left Bring fs = tt
+low_left Shut fs = tt
+low_left Finish fs = tt
 
 nested_body : (m : Mark) → is_body m ≡ true → nests m ≡ true
 nested_body m e = grind arith

@@ -2,20 +2,12 @@
 use Rattle.std.proofs.Common.{◌≡◌, ℕ, ◌+◌, List, [], ◌∷◌, ◌++◌, length, set, Some, Ok, Err, Result, sym, ap, ◌∙◌, subst, arith}
 use Rattle.std.proofs.lemmas.List.{append-nil}
 use Rattle.refusal.specs.declared.Refusal.{Refusal}
-use Rattle.language.specs.Fold.{State, Step, ended, endings, joined, turned, turn_of, in_of, brought, shut, finished, gone_on, gone_on_by, sequel_of}
+use Rattle.language.specs.Fold.{State, Step, ended, endings, gone_on, gone_on_by, sequel_of}
 use Rattle.language.specs.declared.entry.Entry.{Entry}
 use Rattle.language.specs.declared.step.Sequel.{Sequel}
-use Rattle.language.specs.declared.step.Sequel.TheVariants.{Join, Turn, Bring, Shut, Finish}
 use Rattle.language.specs.declared.token.TokenKind.{TokenKind}
-use Rattle.reader.specs.Steps.{view, put, Answered, Stepped, least_by}
+use Rattle.reader.specs.Steps.{view, put, Answered, Stepped, least_by, followed_by}
 use Rattle.reader.specs.declared.parser.Parser.{Parser}
-
-abbrev pub followed_by : Sequel → State → List Entry → ℕ → Step
-followed_by (Join o) u es p = joined o p u es
-followed_by (Turn w) u es p = turned (turn_of w) p u es
-followed_by Bring u es p = brought (turned in_of p u es)
-followed_by Shut u es p = shut p u es
-followed_by Finish u es p = finished p u es
 
 abbrev then_step : List Entry → Step → Step
 then_step es (Ok v) = Ok (v.0, es ++ v.1)
@@ -38,10 +30,9 @@ then_answered (Ok v) es r old mid new written count a =
 by_sequel : (q : Sequel) (s : State) (p : ℕ) → followed_by q (ended (least_by q) s) (endings (least_by q) s) p ≡ gone_on_by q s p
 by_sequel q s p = grind arith
 
-pub goes_on : (was q : Sequel) (k : TokenKind) (p least : ℕ) (r : Result (Unit {0}) Refusal) (old mid new : Parser) → least ≡ least_by was → sequel_of k ≡ Some was → was ≡ q →
+pub goes_on : (q : Sequel) (k : TokenKind) (p least : ℕ) (r : Result (Unit {0}) Refusal) (old mid new : Parser) → least ≡ least_by q → sequel_of k ≡ Some q →
     Stepped (Ok (ended least (view old), endings least (view old))) (Ok tt) old mid → Stepped (followed_by q (view mid) [] p) r mid new → Stepped (gone_on (sequel_of k) (view old) k p) r old new
-goes_on was q k p least r old mid new low is same closed step =
-    let l : least ≡ least_by q = low ∙ ap least_by same in
+goes_on q k p least r old mid new low is closed step =
     let u = ended least (view old) in
     let es = endings least (view old) in
     let count : mid.count ≡ old.count + length es = ap (λ (s : State). s.count) closed.answer.1 in
@@ -49,7 +40,7 @@ goes_on was q k p least r old mid new low is same closed step =
     let e : then_step es (followed_by q (view mid) [] p) ≡ gone_on (sequel_of k) (view old) k p =
     ap (λ s. then_step es (followed_by q s [] p)) closed.answer.1
     ∙ (sym (adds_none q u es p)
-    ∙ (ap (λ n. followed_by q (ended n (view old)) (endings n (view old)) p) l
+    ∙ (ap (λ n. followed_by q (ended n (view old)) (endings n (view old)) p) low
     ∙ (by_sequel q (view old) p
-    ∙ sym (ap (λ o. gone_on o (view old) k p) (is ∙ ap Some same))))) in
+    ∙ sym (ap (λ o. gone_on o (view old) k p) is)))) in
     record { answer = subst (λ x. Answered x r old new) e a; same = step.same ∙ closed.same }

@@ -6,7 +6,7 @@ use Rattle.refusal.specs.declared.Refusal.{Refusal}
 use Rattle.bytecode.specs.Words.{plus}
 use Rattle.bytecode.specs.declared.argument.Argument.{Argument}
 use Rattle.bytecode.proofs.Words.{same_argument}
-use Rattle.language.specs.Fold.{State, Step, named, enter, begun_by, begun, remarked, bound, ended, endings, ends, joined, turn_to, turn_top, brought, shut_top, finish_top, gone_on_by, gone_on, duly, feed, feeds, prefixed}
+use Rattle.language.specs.Fold.{State, Step, begun_by, begun, remarked, bound, ended, endings, ends, joined, turn_to, turn_top, brought, shut_top, finish_top, gone_on_by, gone_on, duly, feed, feeds, prefixed}
 use Rattle.language.specs.Frames.{left, closed}
 use Rattle.language.specs.Reading.{is_last, tokens_from, leaves}
 use Rattle.language.specs.Tree.{entry, blank}
@@ -24,6 +24,7 @@ use Rattle.reader.proofs.Sequels.{put_more}
 use Rattle.reader.specs.Outcomes.{paired, laid}
 use Rattle.reader.specs.Steps.{view, put, Answered, Stepped}
 use Rattle.reader.specs.declared.parser.Parser.{Parser}
+use Rattle.lexer.specs.declared.cursor.Lexer.{Lexer}
 
 -- entries and frames together
 abbrev total : State → ℕ
@@ -33,12 +34,6 @@ total s = s.count + length s.frames
 abbrev Counts : ℕ → ℕ → Step → Type 0
 Counts n most (Ok u) = (u.0.count ≡ n + length u.1) × (total u.0 ≤ most)
 Counts n most (Err e) = Unit {0}
-
-counts_named : (o : Option ℕ) (p : ℕ) (s : State) → Counts s.count (total s + 1) (named o p s)
-counts_named o p s = grind arith
-
-counts_enter : (m : Mark) (p : ℕ) (d : Due) (s : State) → Counts s.count (total s + 1) (enter m p d s)
-counts_enter m p d s = grind arith
 
 counts_begun_by : (o : Opening) (s : State) (p : ℕ) (x : List ℕ) → Counts s.count (total s + 1) (begun_by o s p x)
 counts_begun_by o s p x = grind arith
@@ -145,35 +140,38 @@ counts_ok n most x u h e = subst (Counts n most) e h
 feeds_err : (b : Bool) (s : State) (t : Lexeme) (ts : List Lexeme) (e : Refusal) → feed s t ≡ Err e → feeds s (cond b (t ∷ []) (t ∷ ts)) ≡ Err e
 feeds_err b s t ts e h = grind arith
 
-feeds_last : (b : Bool) (s : State) (t : Lexeme) (ts : List Lexeme) (u : State × List Entry) → b ≡ true → feed s t ≡ Ok u → feeds s (cond b (t ∷ []) (t ∷ ts)) ≡ Ok u.1
-feeds_last b s t ts u l h = grind (arith, append-nil)
-
 feeds_on : (b : Bool) (s : State) (t : Lexeme) (ts : List Lexeme) (u : State × List Entry) → b ≡ false → feed s t ≡ Ok u → feeds s (cond b (t ∷ []) (t ∷ ts)) ≡ prefixed u.1 (feeds u.0 ts)
 feeds_on b s t ts u l h = grind arith
 
 -- one turn, at the place p of the text with tokens enough
-module _ (text : List ℕ) (p : ℕ) (old new : Parser) (whole : Result (ℕ × List Entry) Refusal) (within : p ≤ length text) where
+module _ (text : List ℕ) (l : Lexer) (old new : Parser) (whole : Result (ℕ × List Entry) Refusal) (same : l.text.now ≡ text) where
   abbrev s : State
   s = view old
 
+  abbrev p : ℕ
+  p = l.at
+
+  within : p ≤ length text
+  within = subst (λ xs. p ≤ length xs) same l.within
+
+  at_text : (t : Lexeme) → t ≡ lexeme l.text.now p → t ≡ lexeme text p
+  at_text t is = is ∙ ap (λ xs. lexeme xs p) same
+
   pub turn_err : (n : ℕ) → length text + 1 ≤ n + p → laid old.table.now old.count (feeds s (tokens_from n text p)) ≡ whole →
-      (t : Lexeme) (r : Result (Unit {0}) Refusal) (e : Refusal) → t ≡ lexeme text p → Stepped (feed s t) r old new → r ≡ Err e → Err e ≡ whole
-  turn_err zero fuel inv t r e is step was = absurd (omega arith)
+      (t : Lexeme) (r : Result (Unit {0}) Refusal) (e : Refusal) → t ≡ lexeme l.text.now p → Stepped (feed s t) r old new → r ≡ Err e → Err e ≡ whole
+  turn_err zero fuel inv t r e is step was = let w = within in absurd (omega arith)
   turn_err (suc k) fuel inv t r e is step was =
-      let x : feed s (lexeme text p) ≡ Err e = ap (feed s) (sym is) ∙ answered_err (feed s t) r old new e step.answer was in
+      let x : feed s (lexeme text p) ≡ Err e = ap (feed s) (sym (at_text t is)) ∙ answered_err (feed s t) r old new e step.answer was in
       sym (ap (laid old.table.now old.count) (feeds_err (is_last (lexeme text p).kind) s (lexeme text p) (tokens_from k text (after text p)) e x)) ∙ inv
 
   pub turn_last : (n : ℕ) → length text + 1 ≤ n + p → laid old.table.now old.count (feeds s (tokens_from n text p)) ≡ whole →
-      (t : Lexeme) (r : Result (Unit {0}) Refusal) (o : Unit {0}) → t ≡ lexeme text p → Stepped (feed s t) r old new → r ≡ Ok o → is_last t.kind ≡ true → Ok (new.count, new.table.now) ≡ whole
-  turn_last zero fuel inv t r o is step was last = absurd (omega arith)
+      (t : Lexeme) (r : Result (Unit {0}) Refusal) (o : Unit {0}) → t ≡ lexeme l.text.now p → Stepped (feed s t) r old new → r ≡ Ok o → is_last t.kind ≡ true → Ok (new.count, new.table.now) ≡ whole
+  turn_last zero fuel inv t r o is step was last = let w = within in absurd (omega arith)
   turn_last (suc k) fuel inv t r o is step was last =
       let w = answered_ok (feed s t) r old new o step.answer was in
-      let u = w.next in
-      let x : feed s (lexeme text p) ≡ Ok u = ap (feed s) (sym is) ∙ w.was in
-      let l : is_last (lexeme text p).kind ≡ true = ap (λ y. is_last y.kind) (sym is) ∙ last in
-      let c : new.count ≡ old.count + length u.1 = ap (λ (y : State). y.count) w.state ∙ (counts_ok s.count (total s + 1) (feed s (lexeme text p)) u (feed_counts s (lexeme text p)) x).0 in
-      ap (λ y. Ok (y, new.table.now)) c ∙ (ap (λ y. Ok (old.count + length u.1, y)) w.written
-      ∙ (sym (ap (laid old.table.now old.count) (feeds_last (is_last (lexeme text p).kind) s (lexeme text p) (tokens_from k text (after text p)) u l x)) ∙ inv))
+      let here = at_text t is in
+      let c = (counts_ok s.count (total s + 1) (feed s t) w.next (feed_counts s t) w.was).0 in
+      grind (arith, append-nil)
 
   -- what a step leaves where another token follows
   pub record Turned : Type 0 where
@@ -181,19 +179,19 @@ module _ (text : List ℕ) (p : ℕ) (old new : Parser) (whole : Result (ℕ × 
     pub enough : length text + 1 ≤ fuel + after text p
     pub rest : laid new.table.now new.count (feeds (view new) (tokens_from fuel text (after text p))) ≡ whole
     pub room : total (view new) ≤ total s + 1
-    pub same : new.table.ghost_name ≡ old.table.ghost_name
+    pub kept : new.table.ghost_name ≡ old.table.ghost_name
 
   pub turn_on : (n : ℕ) → length text + 1 ≤ n + p → laid old.table.now old.count (feeds s (tokens_from n text p)) ≡ whole →
-      (t : Lexeme) (r : Result (Unit {0}) Refusal) (o : Unit {0}) → t ≡ lexeme text p → Stepped (feed s t) r old new → r ≡ Ok o → is_last t.kind ≡ false → Turned
-  turn_on zero fuel inv t r o is step was last = absurd (omega arith)
+      (t : Lexeme) (r : Result (Unit {0}) Refusal) (o : Unit {0}) → t ≡ lexeme l.text.now p → Stepped (feed s t) r old new → r ≡ Ok o → is_last t.kind ≡ false → Turned
+  turn_on zero fuel inv t r o is step was last = let w = within in absurd (omega arith)
   turn_on (suc k) fuel inv t r o is step was last =
       let w = answered_ok (feed s t) r old new o step.answer was in
       let u = w.next in
-      let x : feed s (lexeme text p) ≡ Ok u = ap (feed s) (sym is) ∙ w.was in
-      let l : is_last (lexeme text p).kind ≡ false = ap (λ y. is_last y.kind) (sym is) ∙ last in
+      let x : feed s (lexeme text p) ≡ Ok u = ap (feed s) (sym (at_text t is)) ∙ w.was in
+      let ends : is_last (lexeme text p).kind ≡ false = ap (λ y. is_last y.kind) (sym (at_text t is)) ∙ last in
       let c = counts_ok s.count (total s + 1) (feed s (lexeme text p)) u (feed_counts s (lexeme text p)) x in
       let ts = tokens_from k text (after text p) in
-      let moves = token_moves text p l in
+      let moves = token_moves text p ends in
       let e : laid new.table.now new.count (feeds (view new) ts) ≡ laid (put old.table.now old.count u.1) (old.count + length u.1) (feeds u.0 ts) =
       ap (λ y. laid y new.count (feeds (view new) ts)) w.written
       ∙ (ap (λ (y : State). laid (put old.table.now old.count u.1) y.count (feeds y ts)) w.state
@@ -203,9 +201,9 @@ module _ (text : List ℕ) (p : ℕ) (old new : Parser) (whole : Result (ℕ × 
         enough = omega arith;
         rest =
             e ∙ (sym (laid_more old.table.now old.count u.1 (feeds u.0 ts))
-            ∙ (sym (ap (laid old.table.now old.count) (feeds_on (is_last (lexeme text p).kind) s (lexeme text p) ts u l x)) ∙ inv));
+            ∙ (sym (ap (laid old.table.now old.count) (feeds_on (is_last (lexeme text p).kind) s (lexeme text p) ts u ends x)) ∙ inv));
         room = subst (λ y. total y ≤ total s + 1) (sym w.state) c.1;
-        same = step.same;
+        kept = step.same;
       }
 
 -- a table with room for all that is written

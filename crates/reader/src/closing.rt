@@ -1,31 +1,18 @@
 //! The end of frames: their entries go into the table, as far as it has room.
 
-ghost use Rattle.std.specs.Prelude.{◌≡◌, ◌+◌, ◌^◌, ◌<◌, ◌≤◌, true, false, [], ◌∷◌, drop, length, if◌then◌else◌, Some, Ok};
+ghost use Rattle.std.specs.Prelude.{◌≡◌, ◌+◌, ◌^◌, ◌<◌, true, false, [], ◌∷◌, drop, Some, Ok};
 ghost use Rattle.language.specs.Fold.{state, ended, endings};
-ghost use Rattle.language.specs.Frames.{is_body, joint, leaving};
+ghost use Rattle.language.specs.Frames.{joint, leaving};
 ghost use Rattle.reader.specs.Lets.{is_value, due_fits};
 ghost use Rattle.reader.specs.Opened.{frames_of};
-ghost use Rattle.reader.specs.Scopes.{held};
 ghost use Rattle.reader.specs.Stacks.{top};
 ghost use Rattle.reader.specs.Steps.{view, Room, Stepped};
 
-use crate::kinds::is_body;
 use crate::marks::{ends_at, kind};
 use crate::names::Names;
 use crate::parser::Parser;
 use bytecode::Argument;
 use language::{Entry, Frame, Mark};
-
-// Takes the name of a let that ends out of scope.
-fn leave(scope: &mut Names<'_>, mark: Mark)
-    requires { (if is_body mark then 1 else 0) ≤ length (held scope.old) }
-    ensures held { held scope.new ≡ leaving mark (held scope.old) }
-    ensures count { length (held scope.new) + (if is_body mark then 1 else 0) ≡ length (held scope.old) }
-{
-    if is_body(mark) {
-        scope.pop();
-    }
-}
 
 // The entry that a frame becomes after that many entries.
 fn entry_of(frame: Frame, count: usize) -> Entry
@@ -41,22 +28,24 @@ fn entry_of(frame: Frame, count: usize) -> Entry
 }
 
 impl<'t, 'a> Parser<'t, 'a> {
-    /// Takes the frame on top off.
+    /// Takes the frame on top off, and the name of a let that so ends out of scope.
     pub(crate) fn pop(&mut self, frame: Frame)
         requires top { top (frames_of self.old.stack) ≡ Some frame }
         requires no_value { is_value frame.mark ≡ false }
         requires fits { due_fits self.old.due (drop 1 (frames_of self.old.stack)) ≡ true }
-        ensures view { view self.new ≡ state (drop 1 (frames_of self.old.stack)) (held self.old.pending) (leaving frame.mark (held self.old.scope)) self.old.due self.old.count }
+        ensures view { let s = view self.old in view self.new ≡ state (drop 1 s.frames) s.pending (leaving frame.mark s.scope) s.due s.count }
         ensures table { self.new.table ≡ self.old.table }
     {
-        leave(&mut self.scope, frame.mark);
+        if frame.mark == Mark::Body {
+            self.scope.pop();
+        }
         self.stack.pop();
     }
 
     /// Adds an entry, which the table gets where it has room.
     pub(crate) fn put(&mut self, entry: Entry)
         requires { Room self.old }
-        ensures { Stepped (Ok (state (frames_of self.old.stack) (held self.old.pending) (held self.old.scope) self.old.due (self.old.count + 1), entry ∷ [])) (Ok tt) self.old self.new }
+        ensures { let s = view self.old in Stepped (Ok (state s.frames s.pending s.scope s.due (s.count + 1), entry ∷ [])) (Ok tt) self.old self.new }
     {
         let at = self.count;
         if at < self.table.len() {

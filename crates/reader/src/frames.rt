@@ -1,6 +1,6 @@
 //! Putting frames on the stack and taking them off.
 
-ghost use Rattle.std.specs.Prelude.{◌≡◌, ◌+◌, ◌<◌, true, [], ◌∷◌, drop, length};
+ghost use Rattle.std.specs.Prelude.{◌≡◌, true, [], ◌∷◌, drop};
 ghost use Rattle.language.specs.Fold.{remarked};
 ghost use Rattle.language.specs.Frames.{start, above, nests as nests_by};
 ghost use Rattle.reader.specs.Stacks.{top, opens, top_nests};

@@ -1,13 +1,12 @@
 //! What a token can do, by its kind.
 
 ghost use Rattle.std.specs.Prelude.{◌≡◌, IfSome};
-ghost use Rattle.language.specs.Frames.{is_body};
-ghost use Rattle.language.specs.Fold.{opening_of, sequel_of, misplaced, is_name, is_equal, turn_of, is_paren};
-ghost use Rattle.reader.specs.Lets.{is_value, Opened};
+ghost use Rattle.language.specs.Fold.{opening_of, sequel_of, misplaced, turn_of};
+ghost use Rattle.reader.specs.Lets.{Opened};
 ghost use Rattle.language.specs.Reading.{is_last};
 
 use bytecode::Argument;
-use language::{Due, Kind, Mark, Opening, Operator, Sequel, TokenKind, Turn};
+use language::{Due, Kind, Mark, Opening, Sequel, TokenKind, Turn};
 use refusal::Refusal;
 
 /// What a token begins where an operand is due, if anything.
@@ -80,18 +79,6 @@ pub(crate) fn refused(kind: TokenKind, place: usize) -> Refusal
     }
 }
 
-pub(crate) fn is_name(kind: TokenKind) -> bool
-    ensures { result ≡ is_name kind }
-{
-    matches!(kind, TokenKind::Name)
-}
-
-pub(crate) fn is_equal(kind: TokenKind) -> bool
-    ensures { result ≡ is_equal kind }
-{
-    matches!(kind, TokenKind::Binary(Operator::Equal))
-}
-
 /// Whether no token follows this one.
 pub(crate) fn is_last(kind: TokenKind) -> bool
     ensures { result ≡ is_last kind }
@@ -108,24 +95,4 @@ pub(crate) fn turned(turn: Turn, mark: Mark) -> Option<Mark>
         (Turn::Else, Mark::Then) => Some(Mark::Else),
         _ => None,
     }
-}
-
-/// Whether a frame is a let in its first expression.
-pub(crate) fn is_value(mark: Mark) -> bool
-    ensures { result ≡ is_value mark }
-{
-    matches!(mark, Mark::Value)
-}
-
-pub(crate) fn is_paren(mark: Mark) -> bool
-    ensures { result ≡ is_paren mark }
-{
-    matches!(mark, Mark::Paren)
-}
-
-/// Whether a frame is a let in its second expression.
-pub(crate) fn is_body(mark: Mark) -> bool
-    ensures { result ≡ is_body mark }
-{
-    matches!(mark, Mark::Body)
 }

@@ -28,7 +28,7 @@ pub(crate) fn ends_at(least: usize, mark: Mark) -> bool
 {
     match mark {
         Mark::Paren | Mark::Condition | Mark::Then | Mark::Binder | Mark::Value => false,
-        Mark::Else | Mark::Body => least <= 0,
+        Mark::Else | Mark::Body => least == 0,
         Mark::Binary(operator) => least <= operator.row().level,
         Mark::Prefix(_) => least <= 6,
     }

@@ -1,10 +1,9 @@
 //! The parser where an operand is due.
 
-ghost use Rattle.std.specs.Prelude.{◌≡◌, ◌+◌, ◌^◌, ◌<◌, ◌≤◌, true, false, [], ◌∷◌, Ok, length};
+ghost use Rattle.std.specs.Prelude.{◌≡◌, true, false, [], ◌∷◌, Ok};
 ghost use Rattle.language.specs.Fold.{fresh, leaf, opened, enter, enter_whole, opening_of, begun};
 ghost use Rattle.language.specs.Frames.{is_body, frame};
 ghost use Rattle.reader.specs.Lets.{is_value, due_fits, Opens};
-ghost use Rattle.lexer.specs.Lexing.{plain};
 ghost use Rattle.reader.specs.Opened.{frames_of};
 ghost use Rattle.reader.specs.Stacks.{opens};
 ghost use Rattle.reader.specs.Steps.{view, Room, Stepped};
@@ -43,12 +42,11 @@ impl<'t, 'a> Parser<'t, 'a> {
         ensures view { view self.new ≡ opened mark place whole due (view self.old) }
         ensures table { self.new.table ≡ self.old.table }
     {
-        let first = self.count;
         self.stack.push(Frame {
             mark,
             place,
             whole,
-            first,
+            first: self.count,
         });
         self.due = due;
     }
@@ -61,8 +59,7 @@ impl<'t, 'a> Parser<'t, 'a> {
         if self.stack.depth >= 64 {
             return Err(Refusal::TooDeep(place));
         }
-        let whole = self.count;
-        self.push(mark, place, whole, due);
+        self.push(mark, place, self.count, due);
         Ok(())
     }
 
@@ -101,19 +98,17 @@ impl<'t, 'a> Parser<'t, 'a> {
             return Err(refused(token.kind, place));
         };
         match opening {
-            Opening::Leaf(kind, number) => {
-                self.leaf(kind, number, place);
-                Ok(())
+            Opening::Leaf(kind, number) => self.leaf(kind, number, place),
+            Opening::Name => {
+                let i = self
+                    .scope
+                    .position(token.text)
+                    .ok_or(Refusal::UnboundName(place))?;
+                self.leaf(Kind::Name, Argument::plus(i as u8), place);
             }
-            Opening::Name => match self.scope.position(token.text) {
-                Some(i) => {
-                    self.leaf(Kind::Name, Argument::plus(i as u8), place);
-                    Ok(())
-                }
-                None => Err(Refusal::UnboundName(place)),
-            },
-            Opening::Nested(mark) => self.enter(mark, place, Due::Operand),
-            Opening::Whole(mark, due) => self.enter_whole(mark, place, due),
+            Opening::Nested(mark) => self.enter(mark, place, Due::Operand)?,
+            Opening::Whole(mark, due) => self.enter_whole(mark, place, due)?,
         }
+        Ok(())
     }
 }

@@ -1,6 +1,6 @@
 //! Reading a whole text.
 
-ghost use Rattle.std.specs.Prelude.{◌≡◌, ◌+◌, ◌^◌, ◌<◌, ◌≤◌, length, IfOk};
+ghost use Rattle.std.specs.Prelude.{◌≡◌, ◌≤◌, length, IfOk};
 ghost use Rattle.language.specs.Fold.{fresh};
 ghost use Rattle.language.specs.Reading.{parse, reading, answer, leaves};
 ghost use Rattle.reader.specs.Outcomes.{paired, laid};

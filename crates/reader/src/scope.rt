@@ -1,6 +1,6 @@
 //! The names of lets, and the search for a name.
 
-ghost use Rattle.std.specs.Prelude.{◌≡◌, ℕ, ◌+◌, ◌-◌, ◌<◌, [], ◌∷◌, ◌++◌, length, take, drop, IfSome};
+ghost use Rattle.std.specs.Prelude.{◌≡◌, ◌+◌, ◌-◌, ◌<◌, [], ◌∷◌, ◌++◌, length, take, drop, IfSome};
 ghost use Rattle.language.specs.Names.{field_names, find, position};
 ghost use Rattle.reader.specs.Scopes.{newest_first, held};
 

@@ -1,14 +1,13 @@
 //! One step of the parser.
 
-ghost use Rattle.std.specs.Prelude.{◌≡◌, ◌+◌, ◌^◌, ◌<◌, ◌≤◌, length};
+ghost use Rattle.std.specs.Prelude.{◌≡◌};
 ghost use Rattle.language.specs.Fold.{bound, equated, feed};
 ghost use Rattle.lexer.specs.Lexing.{plain};
-ghost use Rattle.reader.specs.Opened.{frames_of};
 ghost use Rattle.reader.specs.Steps.{view, Room, Stepped};
 
-use crate::kinds::{is_equal, is_name, refused};
+use crate::kinds::refused;
 use crate::parser::Parser;
-use language::{Due, Mark, Token};
+use language::{Due, Mark, Operator, Token, TokenKind};
 use refusal::Refusal;
 
 impl<'t, 'a> Parser<'t, 'a> {
@@ -17,12 +16,11 @@ impl<'t, 'a> Parser<'t, 'a> {
         requires { self.old.due ≡ Due.Binder }
         ensures { Stepped (bound (view self.old) token.entry.kind token.entry.place token.entry.text.now) result self.old self.new }
     {
-        if !is_name(token.kind) {
+        if token.kind != TokenKind::Name {
             return Err(refused(token.kind, token.place));
         }
-        let first = self.count;
         self.pending.push(token.text);
-        self.stack.remark(Mark::Value, first);
+        self.stack.remark(Mark::Value, self.count);
         self.due = Due::Equals;
         Ok(())
     }
@@ -31,7 +29,7 @@ impl<'t, 'a> Parser<'t, 'a> {
     fn equate(&mut self, token: Token<'a>) -> Result<(), Refusal>
         ensures { Stepped (equated (view self.old) token.entry.kind token.entry.place) result self.old self.new }
     {
-        if !is_equal(token.kind) {
+        if token.kind != TokenKind::Binary(Operator::Equal) {
             return Err(refused(token.kind, token.place));
         }
         self.due = Due::Operand;
@@ -41,8 +39,7 @@ impl<'t, 'a> Parser<'t, 'a> {
     /// Takes one token, and writes the entries that it ends.
     pub(crate) fn step(&mut self, token: Token<'a>) -> Result<(), Refusal>
         requires { Room self.old }
-        ensures step { Stepped (feed (view self.old) (plain token.entry)) result self.old self.new }
-        ensures same { self.new.table.ghost_name ≡ self.old.table.ghost_name }
+        ensures { Stepped (feed (view self.old) (plain token.entry)) result self.old self.new }
     {
         match self.due {
             Due::Operand => self.begin(token),

@@ -1,27 +1,19 @@
-use Rattle.std.proofs.Common.{sym, ap, ◌∙◌}
+use Rattle.std.proofs.Common.{sym, ap, ◌∙◌, subst}
 use Rattle.language.specs.Fold.{State}
-use Rattle.language.specs.declared.step.Sequel.TheVariants.{Join, Turn, Bring, Shut, Finish}
+use Rattle.language.specs.Frames.{left}
 use Rattle.reader.specs.Opened.{frames_of}
-use Rattle.reader.specs.Steps.{least_by}
-use Rattle.reader.proofs.Lets.{operator_low}
+use Rattle.reader.specs.Steps.{Low}
+use Rattle.reader.proofs.Lets.{low_left}
 use Rattle.reader.proofs.Sequels.{goes_on}
 use Rattle.reader.proofs.parser.Parser.go_on.Goals as goal
 
-pub join-requires : goal.join-requires
-join-requires c =
-    operator_low c.in-Join.operator c.least_of.result (frames_of c.args.self.now.stack) _ (c.least_of.ensures ∙ ap least_by c.in-Join.is) (ap (λ (s : State). s.frames) c.close.ensures.answer.1)
+pub follow-requires : goal.follow-requires
+follow-requires c =
+    let q = c.in-Some.sequel in
+    let fs = frames_of c.args.self.now.stack in
+    subst (Low q) (sym (ap (λ (s : State). s.frames) c.close.ensures.answer.1 ∙ ap (λ k. left k fs) c.least_of.ensures)) (low_left q fs)
 
-pub returns-in-Join : goal.returns-in-Join
-returns-in-Join c = goes_on c.in-Some.sequel (Join c.in-Join.operator) c.args.token.kind c.args.token.place _ _ _ _ _ c.least_of.ensures (sym c.sequel.ensures ∙ c.in-Some.is) c.in-Join.is c.close.ensures c.join.ensures
-
-pub returns-in-Turn : goal.returns-in-Turn
-returns-in-Turn c = goes_on c.in-Some.sequel (Turn c.in-Turn.word) c.args.token.kind c.args.token.place _ _ _ _ _ c.least_of.ensures (sym c.sequel.ensures ∙ c.in-Some.is) c.in-Turn.is c.close.ensures c.turn.ensures
-
-pub returns-in-Bring : goal.returns-in-Bring
-returns-in-Bring c = goes_on c.in-Some.sequel (Bring) c.args.token.kind c.args.token.place _ _ _ _ _ c.least_of.ensures (sym c.sequel.ensures ∙ c.in-Some.is) c.in-Bring.is c.close.ensures c.bring.ensures
-
-pub returns-in-Shut : goal.returns-in-Shut
-returns-in-Shut c = goes_on c.in-Some.sequel (Shut) c.args.token.kind c.args.token.place _ _ _ _ _ c.least_of.ensures (sym c.sequel.ensures ∙ c.in-Some.is) c.in-Shut.is c.close.ensures c.shut.ensures
-
-pub returns-in-Finish : goal.returns-in-Finish
-returns-in-Finish c = goes_on c.in-Some.sequel (Finish) c.args.token.kind c.args.token.place _ _ _ _ _ c.least_of.ensures (sym c.sequel.ensures ∙ c.in-Some.is) c.in-Finish.is c.close.ensures c.finish.ensures
+pub returns : goal.returns
+returns c =
+    rw c.ok_or.ensures.value
+    (goes_on c.in-Some.sequel c.args.token.kind c.args.token.place c.least_of.result _ c.args.self.now c.close.new.self _ c.least_of.ensures (sym c.sequel.ensures ∙ c.in-Some.is) c.close.ensures c.follow.ensures)

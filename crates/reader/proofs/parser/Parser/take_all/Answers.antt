@@ -30,18 +30,14 @@ returns-in_err-step-clause-written c =
     let inv = c.loop.invariant.3 in
     let same = c.loop.invariant.1 in
     let p = err_from_is_err_and c.from_residual.result c.from_residual.ensures.1 in
-    let within : c.loop.lexer.at ≤ length c.args.text.now = subst (λ xs. c.loop.lexer.at ≤ length xs) same c.loop.lexer.within in
-    let is : plain c.next-token.result ≡ lexeme c.args.text.now c.loop.lexer.at = c.next-token.ensures.token ∙ ap (λ xs. lexeme xs c.loop.lexer.at) same in
-    let e = turn_err c.args.text.now c.loop.lexer.at c.loop.self c.step.new.self _ within inv.0 inv.1 inv.2 (plain c.next-token.result) c.step.result _ is c.step.ensures.step c.in_err-step.was in
+    let e = turn_err c.args.text.now c.loop.lexer c.loop.self c.step.new.self _ same inv.0 inv.1 inv.2 (plain c.next-token.result) c.step.result _ c.next-token.ensures.token c.step.ensures c.in_err-step.was in
     paired_err _ _ _ (p.1 ∙ ap Err p.2) ∙ e
 
 pub returns-then-is_last-clause-written : goal.returns-then-is_last-clause-written
 returns-then-is_last-clause-written c =
     let inv = c.loop.invariant.3 in
     let same = c.loop.invariant.1 in
-    let within : c.loop.lexer.at ≤ length c.args.text.now = subst (λ xs. c.loop.lexer.at ≤ length xs) same c.loop.lexer.within in
-    let is : plain c.next-token.result ≡ lexeme c.args.text.now c.loop.lexer.at = c.next-token.ensures.token ∙ ap (λ xs. lexeme xs c.loop.lexer.at) same in
-    turn_last c.args.text.now c.loop.lexer.at c.loop.self c.step.new.self _ within inv.0 inv.1 inv.2 (plain c.next-token.result) c.step.result _ is c.step.ensures.step c.in_ok-step.was (sym c.if-is_last.ensures)
+    turn_last c.args.text.now c.loop.lexer c.loop.self c.step.new.self _ same inv.0 inv.1 inv.2 (plain c.next-token.result) c.step.result _ c.next-token.ensures.token c.step.ensures c.in_ok-step.was (sym c.if-is_last.ensures)
 
 -- a token that is not the last takes a byte
 moved : (c : goal.Else-is_last) → c.loop.lexer.at < c.next-token.new.self.at
@@ -53,20 +49,18 @@ moved c =
 pub loop-smaller : goal.loop-smaller
 loop-smaller c =
     let m = moved c in
-    let same : c.next-token.new.self.text.now ≡ c.args.text.now = ap (λ x. x.now) c.next-token.ensures.same ∙ c.loop.invariant.1 in
-    let within : c.next-token.new.self.at ≤ length c.args.text.now = subst (λ xs. c.next-token.new.self.at ≤ length xs) same c.next-token.new.self.within in
-    omega arith
+    let same = ap (λ x. length x.now) c.next-token.ensures.same in
+    let long = ap length c.loop.invariant.1 in
+    omega (arith, c.next-token.new.self.within)
 
 pub loop-preserved : goal.loop-preserved
 loop-preserved c =
     let inv = c.loop.invariant.3 in
     let same = c.loop.invariant.1 in
     let m = moved c in
-    let within : c.loop.lexer.at ≤ length c.args.text.now = subst (λ xs. c.loop.lexer.at ≤ length xs) same c.loop.lexer.within in
-    let is : plain c.next-token.result ≡ lexeme c.args.text.now c.loop.lexer.at = c.next-token.ensures.token ∙ ap (λ xs. lexeme xs c.loop.lexer.at) same in
     let to : after c.args.text.now c.loop.lexer.at ≡ c.next-token.new.self.at = ap (λ xs. after xs c.loop.lexer.at) (sym same) ∙ sym c.next-token.ensures.moved in
-    let on = turn_on c.args.text.now c.loop.lexer.at c.loop.self c.step.new.self _ within inv.0 inv.1 inv.2 (plain c.next-token.result) c.step.result _ is c.step.ensures.step c.in_ok-step.was (sym c.if-is_last.ensures) in (
-      on.same ∙ c.loop.invariant.0,
+    let on = turn_on c.args.text.now c.loop.lexer c.loop.self c.step.new.self _ same inv.0 inv.1 inv.2 (plain c.next-token.result) c.step.result _ c.next-token.ensures.token c.step.ensures c.in_ok-step.was (sym c.if-is_last.ensures) in (
+      on.kept ∙ c.loop.invariant.0,
       ap (λ x. x.now) c.next-token.ensures.same ∙ same,
       omega (arith, on.room, c.loop.invariant.2),
       (
