@@ -7,7 +7,7 @@ use language::Entry;
 
 /// The entries of a rule: at most 512, and the table of a tree in which each name is bound. No other entries can be
 /// judged or translated.
-#[derive(Clone, Copy)]
+#[derive(Clone, Copy, PartialEq, Eq, Debug)]
 pub struct Rule<'t> {
     pub entries: &'t [Entry],
     ghost few: { length entries.now ≤ 512 },

@@ -1,7 +1,7 @@
 //! Where a reader stands in the rule's chain.
 
 /// A record, and how many links lead to it from record 0.
-#[derive(Clone, Copy)]
+#[derive(Clone, Copy, PartialEq, Eq, Debug)]
 pub struct Cursor {
     pub record: usize,
     pub index: usize,

@@ -13,7 +13,7 @@ use memory::CodeMemory;
 pub use written::write_all;
 
 /// What can be asked of a code memory.
-#[derive(Clone, Copy)]
+#[derive(Clone, Copy, PartialEq, Eq, Debug)]
 pub enum Operation {
     Append(Word),
     Clear,
