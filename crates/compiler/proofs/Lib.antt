@@ -1,5 +1,3 @@
 mod Placed
-mod Added
-mod Emitted
+mod Jumps
 mod Translated
-pub mod Carded

@@ -1,10 +1,9 @@
 //! Writing the words of a table's tree.
 
-ghost use Rattle.std.specs.Prelude.{◌≡◌, ◌+◌, ◌^◌, ◌<◌, ◌≤◌, min, List, [], ◌∷◌, length};
+ghost use Rattle.std.specs.Prelude.{◌≡◌, ◌+◌, ◌^◌, ◌<◌, ◌≤◌, min, List, [], ◌∷◌, length, reverse};
 ghost use Rattle.bytecode.specs.Words.{plus, written};
 ghost use Rattle.bytecode.specs.declared.instruction.Instruction.TheVariants.{Push, Consti, Branch, Branchif};
 ghost use Rattle.compiler.specs.Emitting.{Adds, Emits};
-ghost use Rattle.compiler.specs.Layouts.{newest};
 
 use crate::layout::Layout;
 use bytecode::{Argument, Instruction};
@@ -18,7 +17,7 @@ use shapes::measure;
 fn byte(n: usize) -> u8
     ensures { result ≡ min n 255 }
 {
-    if n < 255 { n as u8 } else { 255 }
+    u8::try_from(n).unwrap_or(255)
 }
 
 // The jump behind a condition: over the else code, of this many words, and the jump behind it.
@@ -68,48 +67,45 @@ pub(crate) fn emit<M: CodeMemory>(
 ) -> Result<(), Refusal>
     requires { layout.old.height + length entries.now ≤ 520 }
     ensures height { layout.new.height ≡ layout.old.height }
-    ensures bindings { layout.new.bindings ≡ layout.old.bindings }
-    ensures spots { newest layout.new.spots layout.new.bindings ≡ newest layout.old.spots layout.old.bindings }
+    ensures spots { layout.new.spots ≡ layout.old.spots }
     ensures same { M.room memory.new ≡ M.room memory.old }
-    ensures value { Emits entries.now (newest layout.old.spots layout.old.bindings) layout.old.height (M.room memory.old) result (M.listed memory.old) (M.listed memory.new) }
+    ensures value { Emits entries.now (reverse layout.old.spots.items) layout.old.height (M.room memory.old) result (M.listed memory.old) (M.listed memory.new) }
 {
-    let n = entries.len();
     match root(entries) {
-        Node::Broken => Ok(()),
-        Node::Number(constant) => put(memory, Instruction::Consti(constant)),
-        Node::Truth(constant) => put(memory, Instruction::Consti(constant)),
-        Node::Name(position, _) => {
+        None => Ok(()),
+        Some(Node::Number(constant) | Node::Truth(constant)) => {
+            put(memory, Instruction::Consti(constant))
+        }
+        Some(Node::Name(position, _)) => {
             let above = byte(layout.above(position));
             put(memory, Instruction::Acc(above))
         }
-        Node::Prefix(operator, _) => {
-            emit(&entries[0..n - 1], layout, memory)?;
+        Some(Node::Prefix(operator, _, part)) => {
+            emit(part, layout, memory)?;
             let row = operator.row();
             put_constant(memory, row.constant, row.instruction)
         }
-        Node::Binary(operator, _, second) => {
-            emit(&entries[0..second], layout, memory)?;
+        Some(Node::Binary(operator, _, first, second)) => {
+            emit(first, layout, memory)?;
             put(memory, Instruction::Push)?;
             layout.wait();
-            let done = emit(&entries[second..n - 1], layout, memory);
+            let done = emit(second, layout, memory);
             layout.resume();
             done?;
             put(memory, operator.row().instruction)
         }
-        Node::If(_, second, third) => {
-            let first = measure(&entries[second..third]).length;
-            let other = measure(&entries[third..n - 1]).length;
-            emit(&entries[0..second], layout, memory)?;
-            put(memory, over_else(other))?;
-            emit(&entries[third..n - 1], layout, memory)?;
-            put(memory, over_then(first))?;
-            emit(&entries[second..third], layout, memory)
+        Some(Node::If(_, test, first, second)) => {
+            emit(test, layout, memory)?;
+            put(memory, over_else(measure(second).length))?;
+            emit(second, layout, memory)?;
+            put(memory, over_then(measure(first).length))?;
+            emit(first, layout, memory)
         }
-        Node::Let(body) => {
-            emit(&entries[0..body], layout, memory)?;
+        Some(Node::Let(value, body)) => {
+            emit(value, layout, memory)?;
             put(memory, Instruction::Push)?;
             layout.bind();
-            let done = emit(&entries[body..n - 1], layout, memory);
+            let done = emit(body, layout, memory);
             layout.unbind();
             done?;
             put(memory, Instruction::Popi(1))

@@ -1,54 +1,43 @@
 //! Where on the stack the bindings in scope stand.
 
-ghost use Rattle.std.specs.Prelude.{◌≡◌, ◌+◌, ◌-◌, ◌<◌, ◌≤◌, List, ◌∷◌, length};
+ghost use Rattle.std.specs.Prelude.{◌≡◌, ◌+◌, ◌-◌, ◌<◌, ◌≤◌, List, [], ◌∷◌, ◌++◌, length, take, reverse};
+ghost use Rattle.std.specs.List.{slice_get};
+ghost use Rattle.arrayvec.specs.ArrayVec.{array_vec_len};
 ghost use Rattle.language.specs.Code.{Slot, above, field_slots};
-ghost use Rattle.compiler.specs.Layouts.{newest, spots_of};
+ghost use Rattle.compiler.specs.Layouts.{spots_of};
+
+use arrayvec::ArrayVec;
 
 /// For each binding in scope, the innermost last, how many words stand below its own; and how many words stand on the
 /// stack. There is room for the eight fields and for one word for each entry of a table.
 #[derive(Drop)]
 pub struct Layout {
-    pub spots: [usize; 520],
-    pub bindings: usize,
+    pub spots: ArrayVec<usize, 520>,
     pub height: usize,
-    ghost within: { bindings ≤ height },
+    ghost within: { array_vec_len spots ≤ height },
     ghost bounded: { height ≤ 520 },
-}
-
-// How many of so many words stand above the one that has this many below it.
-fn from_top(height: usize, below: usize) -> usize
-    requires { 0 < height }
-    ensures { result ≡ height - 1 - below }
-{
-    (height - 1).saturating_sub(below)
 }
 
 impl Layout {
     /// The eight fields, the first on top.
     pub(crate) fn fields() -> Layout
         ensures height { result.height ≡ 8 }
-        ensures spots { newest result.spots result.bindings ≡ spots_of field_slots }
+        ensures spots { reverse result.spots.items ≡ spots_of field_slots }
     {
-        let mut spots = [0; 520];
-        spots[1] = 1;
-        spots[2] = 2;
-        spots[3] = 3;
-        spots[4] = 4;
-        spots[5] = 5;
-        spots[6] = 6;
-        spots[7] = 7;
-        Layout {
-            spots,
-            bindings: 8,
-            height: 8,
+        let mut layout = Layout {
+            spots: ArrayVec::new(),
+            height: 0,
+        };
+        for _field in 0..8_usize {
+            layout.bind();
         }
+        layout
     }
 
     /// A pushed word is an operand that waits.
     pub(crate) fn wait(&mut self)
         requires { self.old.height < 520 }
         ensures height { self.new.height ≡ self.old.height + 1 }
-        ensures bindings { self.new.bindings ≡ self.old.bindings }
         ensures spots { self.new.spots ≡ self.old.spots }
     {
         self.height += 1;
@@ -56,9 +45,8 @@ impl Layout {
 
     /// The operand is taken off.
     pub(crate) fn resume(&mut self)
-        requires { self.old.bindings < self.old.height }
+        requires { array_vec_len self.old.spots < self.old.height }
         ensures height { self.new.height + 1 ≡ self.old.height }
-        ensures bindings { self.new.bindings ≡ self.old.bindings }
         ensures spots { self.new.spots ≡ self.old.spots }
     {
         self.height -= 1;
@@ -68,34 +56,36 @@ impl Layout {
     pub(crate) fn bind(&mut self)
         requires { self.old.height < 520 }
         ensures height { self.new.height ≡ self.old.height + 1 }
-        ensures bindings { self.new.bindings ≡ self.old.bindings + 1 }
-        ensures spots { newest self.new.spots self.new.bindings ≡ self.old.height ∷ newest self.old.spots self.old.bindings }
+        ensures spots { self.new.spots.items ≡ self.old.spots.items ++ self.old.height ∷ [] }
     {
-        self.spots[self.bindings] = self.height;
-        self.bindings += 1;
-        self.height += 1;
+        let below = self.height;
+        self.wait();
+        self.spots.push(below);
     }
 
     /// The let ends.
     pub(crate) fn unbind(&mut self)
-        requires { 0 < self.old.bindings }
+        requires { 0 < array_vec_len self.old.spots }
         ensures height { self.new.height + 1 ≡ self.old.height }
-        ensures bindings { self.new.bindings + 1 ≡ self.old.bindings }
-        ensures spots { self.new.spots ≡ self.old.spots }
+        ensures spots { self.new.spots.items ≡ take (array_vec_len self.old.spots - 1) self.old.spots.items }
     {
-        self.bindings -= 1;
-        self.height -= 1;
+        self.spots.pop();
+        self.resume();
+    }
+
+    // How many words stand below the binding at a position.
+    fn spot(&self, position: u8) -> Option<usize>
+        ensures { result ≡ slice_get (reverse self.now.spots.items) position }
+    {
+        self.spots.iter().rev().nth(usize::from(position)).copied()
     }
 
     /// How many words stand above the binding at a position, 0 being the innermost; all of them, where there is none.
     pub(crate) fn above(&self, position: u8) -> usize
-        ensures { (s : List Slot) → spots_of s ≡ newest self.now.spots self.now.bindings → length s ≡ self.now.height → result ≡ above s position }
+        ensures { (s : List Slot) → spots_of s ≡ reverse self.now.spots.items → length s ≡ self.now.height → result ≡ above s position }
     {
-        let position = position as usize;
-        if position < self.bindings {
-            from_top(self.height, self.spots[self.bindings - 1 - position])
-        } else {
-            self.height
-        }
+        self.spot(position).map_or(self.height, |below| {
+            self.height.saturating_sub(below).saturating_sub(1)
+        })
     }
 }

@@ -5,7 +5,6 @@
 mod card;
 mod emit;
 mod layout;
-mod measure;
 mod writing;
 
 pub use card::Card;

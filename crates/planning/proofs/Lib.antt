@@ -1,1 +1,1 @@
-pub mod Plans
+mod Plans

@@ -1,44 +1,27 @@
 use Rattle.std.proofs.Math.Bridge.{le_prop}
-use Rattle.std.proofs.Common.{refl, arith}
+use Rattle.std.proofs.Common.{◌≡◌, sym, ap, ◌∙◌, arith}
 use Rattle.std.proofs.Math.Logic.{∥∥₁_elim}
-use Rattle.std.proofs.lemmas.Result.{err_from_is_err_and}
-use Rattle.language.specs.Code.{refusal_of}
-use Rattle.compiler.proofs.Carded.{some_words, carded, refused, at_refusal}
+use Rattle.language.specs.Tree.{Tree, flatten}
+use Rattle.compiler.specs.Translating.{code_after}
+use Rattle.compiler.proofs.Translated.{whole, no_refusal, long_some}
 use Rattle.compiler.proofs.writing.translate.Goals as goal
 
-pub invariant_of-result : goal.invariant_of-result
-invariant_of-result g c =
-    let room = g.M.CodeMemory.room c.args.memory.now in
-    let m = c.in_ok-measure.measure in
-    let told = c.in_ok-measure.ensures in
-    let few = c.args.rule.few in
-    let bounds = told.bounds in
+pub invariant_of-result-clause-some : goal.invariant_of-result-clause-some
+invariant_of-result-clause-some g c =
+    ∥∥₁_elim c.args.rule.formed le_prop (λ f. let l = long_some f.tree in omega (arith, ap (λ x. x.length) (c.measure-shape.ensures.value f.tree f.table)))
+
+pub returns-in_err-emit : goal.returns-in_err-emit
+returns-in_err-emit g c =
+    let never : (t : Tree) → c.args.rule.entries.now ≡ flatten t → ⊥ =
+    λ t h. no_refusal _ _ _ t (whole _ _ _ _ _ _ _ _ _ _ c.measure-shape.ensures.value c.in_ok-height.ensures.0 c.capacity.ensures.value c.clear.ensures.same c.fields.ensures.spots c.fields.ensures.height c.clear.ensures.after c.in_err-emit.ensures.value t h) in
     record {
-      some = ∥∥₁_elim c.args.rule.formed le_prop (λ f. some_words (refusal_of room f.tree) f.tree m (told.value f.tree f.table));
-      short = omega (arith, bounds.0);
-      low = bounds.1;
-      high = bounds.2;
+      same = c.emit.ensures.same ∙ c.clear.ensures.same;
+      value = λ t h. absurd (never t h);
+      code = λ t h. absurd (never t h);
+      kept = λ t h. absurd (never t h);
     }
 
-pub returns-in_err-measure : goal.returns-in_err-measure
-returns-in_err-measure g c =
-    let room = g.M.CodeMemory.room c.args.memory.now in
-    let told = c.in_err-measure.ensures in
-    let p = err_from_is_err_and c.from_residual.result c.from_residual.ensures.1 in
-    record {
-      same = told.same;
-      value = λ t h. refused (refusal_of room t) c.args.gives t _ _ _ (told.value t h) p.1 p.2;
-      code = λ t h. told.code t h;
-      kept = λ t h. at_refusal c.from_residual.result _ p.1 (told.kept t h);
-    }
-
-pub returns : goal.returns
-returns g c =
-    let room = g.M.CodeMemory.room c.args.memory.now in
-    let told = c.in_ok-measure.ensures in
-    record {
-      same = told.same;
-      value = λ t h. carded (refusal_of room t) c.args.gives t c.in_ok-measure.measure _ (told.value t h) refl refl refl;
-      code = λ t h. told.code t h;
-      kept = λ t h. tt;
-    }
+pub returns-clause-code : goal.returns-clause-code
+returns-clause-code g c t h =
+    let w = whole _ _ _ _ _ _ _ _ _ _ c.measure-shape.ensures.value c.in_ok-height.ensures.0 c.capacity.ensures.value c.clear.ensures.same c.fields.ensures.spots c.fields.ensures.height c.clear.ensures.after c.in_ok-emit.ensures.value t h in
+    w.words ∙ sym (ap (λ x. code_after x t (g.M.CodeMemory.listed c.args.memory.now)) w.free)

@@ -1,11 +1,11 @@
-use Rattle.std.proofs.Common.{arith}
+use Rattle.std.proofs.Common.{◌≡◌, sym, ap, ◌∙◌, arith}
+use Rattle.std.proofs.lemmas.Grind.{common_steps}
+use Rattle.std.specs.List.{slice_get}
+use Rattle.compiler.specs.Layouts.{spots_of}
 use Rattle.compiler.proofs.Placed.{above_found, above_missing}
 use Rattle.compiler.proofs.layout.Layout.above.Goals as goal
 
-pub returns-then-position-self : goal.returns-then-position-self
-returns-then-position-self c =
-    above_found c.args.self.now.spots c.args.self.now.bindings c.args.self.now.height c.args.position _ (omega arith) c.from_top.ensures
-
-pub returns-else-position-self : goal.returns-else-position-self
-returns-else-position-self c =
-    above_missing c.args.self.now.spots c.args.self.now.bindings c.args.self.now.height c.args.position (omega arith)
+pub returns : goal.returns
+returns c s e l =
+    let k : c.spot.result ≡ slice_get (spots_of s) c.args.position = c.spot.ensures ∙ sym (ap (λ xs. slice_get xs c.args.position) e) in
+    grind (arith, common_steps, above_found, above_missing)
