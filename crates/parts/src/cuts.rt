@@ -18,6 +18,7 @@ fn cut(entries: &[Entry]) -> Option<(&[Entry], &[Entry])>
 }
 
 /// The root of the table, with its parts, if the table has an entry that can be the root of a tree.
+#[inline]
 pub fn root(entries: &[Entry]) -> Option<Node<'_>>
     ensures within { IfSome result (Within entries.now) }
     ensures shorter { IfSome result (Shorter (length entries.now)) }

@@ -31,6 +31,7 @@ returns-in_ok-put-in-Some-If-2-clause-value g t c =
     (adds_at _ _ _ _ room₃ c.in_ok-put-in-Some-If-2.ensures.adds)
     (emits_at _ _ _ _ (ap (λ x. reverse x.items) spots₂) high₂ room₄ c.emit-in-Some-If-3.ensures.value)
 
+-- The check finds these alone, but needs more than half of its limits.
 pub returns-in_err-put-in-Some-If-2-clause-value : goal.returns-in_err-put-in-Some-If-2-clause-value
 returns-in_err-put-in-Some-If-2-clause-value g t c = grind (arith, common_steps)
 
