@@ -7,7 +7,7 @@ ghost use Rattle.parts.specs.Nodes.{RootOf, Within, Shorter};
 use crate::node::Node;
 use language::{Entry, Kind};
 
-// The last part, which is as long as its last entry says, and behind which nothing stands; and what stands before it.
+// The entries before the last part, and that part, which is as long as its last entry says.
 fn cut(entries: &[Entry]) -> Option<(&[Entry], &[Entry])>
     ensures within { IfSome result (λ p. entries.now ≡ p.0.now ++ p.1.now) }
     ensures value { (xs : List Entry) (t : Tree) → entries.now ≡ xs ++ flatten t → MatchOption result ⊥ (λ p. (p.0.now ≡ xs) × (p.1.now ≡ flatten t)) }
