@@ -1,18 +1,17 @@
 //! Where on the stack the bindings in scope stand.
 
 ghost use Rattle.std.specs.Prelude.{◌≡◌, ◌+◌, ◌-◌, ◌<◌, ◌≤◌, List, [], ◌∷◌, ◌++◌, length, take, reverse};
-ghost use Rattle.std.specs.List.{slice_get};
 ghost use Rattle.arrayvec.specs.ArrayVec.{array_vec_len};
 ghost use Rattle.language.specs.Code.{Slot, above, field_slots};
 ghost use Rattle.compiler.specs.Layouts.{spots_of};
 
-use arrayvec::ArrayVec;
+use parts::{Bindings, bound};
 
 /// For each binding in scope, the innermost last, how many words stand below its own; and how many words stand on the
 /// stack. There is room for the eight fields and for one word for each entry of a table.
 #[derive(Drop)]
 pub struct Layout {
-    pub spots: ArrayVec<usize, 520>,
+    pub spots: Bindings<usize>,
     pub height: usize,
     ghost within: { array_vec_len spots ≤ height },
     ghost bounded: { height ≤ 520 },
@@ -25,7 +24,7 @@ impl Layout {
         ensures spots { reverse result.spots.items ≡ spots_of field_slots }
     {
         let mut layout = Layout {
-            spots: ArrayVec::new(),
+            spots: Bindings::new(),
             height: 0,
         };
         for _field in 0..8_usize {
@@ -73,18 +72,11 @@ impl Layout {
         self.resume();
     }
 
-    // How many words stand below the binding at a position.
-    fn spot(&self, position: u8) -> Option<usize>
-        ensures { result ≡ slice_get (reverse self.now.spots.items) position }
-    {
-        self.spots.iter().rev().nth(usize::from(position)).copied()
-    }
-
     /// How many words stand above the binding at a position, 0 being the innermost; all of them, where there is none.
     pub(crate) fn above(&self, position: u8) -> usize
         ensures { (s : List Slot) → spots_of s ≡ reverse self.now.spots.items → length s ≡ self.now.height → result ≡ above s position }
     {
-        self.spot(position).map_or(self.height, |below| {
+        bound(&self.spots, position).map_or(self.height, |below| {
             self.height.saturating_sub(below).saturating_sub(1)
         })
     }

@@ -1,9 +1,11 @@
-//! What the last entry of a table is, and where in the table its parts begin.
+//! The root of a table, with the tables of its parts; and a value for each binding in scope.
 
 #![tactic(auto)]
 
+mod bindings;
 mod cuts;
 mod node;
 
+pub use bindings::{Bindings, bound};
 pub use cuts::root;
 pub use node::Node;

@@ -6,10 +6,10 @@ ghost use Rattle.language.specs.Tree.{Tree, flatten};
 ghost use Rattle.language.specs.Typing.{fitting, typed, type_of};
 ghost use Rattle.typing.specs.Judged.{judged, prefixed, paired, chosen};
 
-use crate::scope::{Scope, bound, fields};
+use crate::scope::fields;
 use grammar::Rule;
 use language::{Entry, Operator, Prefix, ValueType};
-use parts::{Node, root};
+use parts::{Bindings, Node, bound, root};
 use refusal::Refusal;
 
 // The type of an entry at a place, where its types fit.
@@ -48,7 +48,7 @@ fn choice(a: ValueType, b: ValueType, c: ValueType, place: usize) -> Result<Valu
 }
 
 // The type of the tree in the table under a scope, which is left as it was.
-fn type_of(entries: &[Entry], scope: &mut Scope) -> Result<ValueType, Refusal>
+fn type_of(entries: &[Entry], scope: &mut Bindings<ValueType>) -> Result<ValueType, Refusal>
     requires { array_vec_len scope.old + length entries.now ≤ 520 }
     ensures kept { scope.new ≡ scope.old }
     ensures value { (t : Tree) → entries.now ≡ flatten t → result ≡ judged (typed (reverse scope.old.items) t) }

@@ -7,5 +7,5 @@ use Rattle.compiler.proofs.layout.Layout.above.Goals as goal
 
 pub returns : goal.returns
 returns c s e l =
-    let k : c.spot.result ≡ slice_get (spots_of s) c.args.position = c.spot.ensures ∙ sym (ap (λ xs. slice_get xs c.args.position) e) in
+    let k : c.bound.result ≡ slice_get (spots_of s) c.args.position = c.bound.ensures ∙ sym (ap (λ xs. slice_get xs c.args.position) e) in
     grind (arith, common_steps, above_found, above_missing)
