@@ -6,7 +6,7 @@ use language::ValueType;
 
 /// The type of a rule, the number of its words and the height of its stack. Every card has 1 to 1,536 words and a height
 /// of 8 to 128.
-#[derive(Clone, Copy)]
+#[derive(Clone, Copy, PartialEq, Eq, Debug)]
 pub struct Card {
     pub gives: ValueType,
     pub length: usize,

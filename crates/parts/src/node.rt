@@ -4,7 +4,7 @@ use bytecode::Argument;
 use language::{Entry, Operator, Prefix};
 
 /// The last entry of a table, with its place and with the tables of its parts.
-#[derive(Clone, Copy)]
+#[derive(Clone, Copy, PartialEq, Eq, Debug)]
 pub enum Node<'t> {
     /// The constant.
     Number(Argument),
