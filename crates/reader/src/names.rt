@@ -2,7 +2,8 @@
 
 use arrayvec::ArrayVec;
 
-/// A name, as the part of the text where it stands.
+/// A name, as the part of the text where it stands. The empty one, which a slice alone has not as its default, fills the
+/// unused places of a vector.
 #[derive(Clone, Copy)]
 pub struct Name<'a> {
     pub text: &'a [u8],

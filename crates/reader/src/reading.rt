@@ -13,7 +13,7 @@ use language::{Entry, Kind};
 use lexer::Lexer;
 use refusal::Refusal;
 
-// An entry that holds nothing.
+// An entry that holds nothing, written out, since a constant calls no function.
 const BLANK: Entry = Entry {
     kind: Kind::Blank,
     number: Argument {
