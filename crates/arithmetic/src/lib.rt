@@ -37,6 +37,7 @@ pub trait Arithmetic {
         ensures { result ≡ ok_or (ops.times a b) (record {}) };
 
     /// Whether the two are one word.
+    // An operation of the interface, as is the next one, and no `Eq` or `Ord` of the words: an arithmetic says what it means.
     fn same(a: Self::Word, b: Self::Word) -> bool
         ensures { result ≡ ops.same a b };
 

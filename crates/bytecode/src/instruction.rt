@@ -36,6 +36,7 @@ pub enum Instruction {
 /// Three bytes of code. Not every word is an instruction.
 #[derive(Clone, Copy, PartialEq, Eq, Debug)]
 pub struct Word {
+    /// Any byte, not only one that an instruction has: so a number and no enum.
     pub opcode: u8,
     pub sign: u8,
     pub value: u8,

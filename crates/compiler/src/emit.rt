@@ -20,6 +20,8 @@ fn byte(n: usize) -> u8
     u8::try_from(n).unwrap_or(255)
 }
 
+// The two jumps of an if are two functions, so that each count of words stands in one place.
+
 // The jump behind a condition: over the else code, of this many words, and the jump behind it.
 fn over_else(words: usize) -> Instruction
     requires { words < 2 ^ 62 }

@@ -17,7 +17,8 @@ fn fill<M: CodeMemory>(memory: &mut M) {
     }
 }
 
-// Fills the memory, reads all words forward that many times, and adds their bytes up.
+// Fills the memory, reads all words forward that many times, and adds their bytes up. By loops over places, as the
+// machine reads, and without an iterator's own cost.
 fn sum<M: CodeMemory>(memory: &mut M, rounds: u32) -> u64 {
     fill(memory);
     let mut all: u64 = 0;

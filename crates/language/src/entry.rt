@@ -1,4 +1,5 @@
-//! The table that holds a rule's tree in post-order.
+//! The table that holds a rule's tree in post-order: entries with sizes in the caller's slice, since there is no heap for
+//! boxes.
 
 use crate::operator::{Operator, Prefix};
 use bytecode::Argument;
@@ -6,6 +7,7 @@ use bytecode::Argument;
 /// What an entry is: nothing, a leaf, or a node whose parts stand before it.
 #[derive(Clone, Copy, PartialEq, Eq, Debug)]
 pub enum Kind {
+    /// Of an entry that holds nothing. A kind and no option, since a table's entries have a kind each.
     Blank,
     Number,
     Truth,

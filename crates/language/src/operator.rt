@@ -59,6 +59,7 @@ pub struct Row {
 
 /// What there is to know of a prefix: the type of its operand and of its value, and the constant and the instruction
 /// that work it out, the operand being pushed.
+// Beside `Row`, since a prefix has no level and an operator no constant.
 #[derive(Clone, Copy, PartialEq, Eq, Debug)]
 pub struct PrefixRow {
     pub takes: ValueType,

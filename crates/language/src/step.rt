@@ -1,4 +1,4 @@
-//! What a token can do while a rule is read.
+//! What a token can do while a rule is read. Values and no functions to call, since the grammar's fold reads them too.
 
 use crate::entry::Kind;
 use crate::frame::{Due, Mark};

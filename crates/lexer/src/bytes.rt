@@ -35,6 +35,7 @@ pub(crate) fn run<F: Fn(u8) -> bool>(bytes: &[u8], test: F) -> usize
 }
 
 /// Whether two texts are the same.
+// Public, so what it promises stays; the crates here write `==`.
 pub fn same(one: &[u8], other: &[u8]) -> bool
     ensures { result ≡ bytes_eq one.now other.now }
 {

@@ -3,6 +3,7 @@
 ghost use Rattle.std.specs.Prelude.{ℕ, ◌≤◌, length};
 
 /// A cursor over a text.
+// The text and a place in it, not the rest of the text: a token's place counts from the text's start.
 #[derive(Drop)]
 pub struct Lexer<'a> {
     pub text: &'a [u8],

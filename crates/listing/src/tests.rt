@@ -7,6 +7,7 @@ fn word(opcode: u8, sign: u8, value: u8) -> Word {
     Word::from([opcode, sign, value])
 }
 
+// In the tests of two crates, since neither is a library of the other's tests.
 fn fill<M: CodeMemory>(memory: &mut M, words: &[Word]) {
     for word in words {
         let _ = memory.append(*word);

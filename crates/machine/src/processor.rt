@@ -55,6 +55,7 @@ impl<W: Copy> Processor<'_, W> {
     }
 
     /// Puts the accumulator on the stack.
+    // By its index, since a proof does not know what a write through `get_mut` leaves in the slice.
     pub(crate) fn push(&mut self) -> Result<(), Refusal>
         ensures { Did (pushed self.old.next) self.old self.new result }
     {

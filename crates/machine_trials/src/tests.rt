@@ -10,6 +10,7 @@ const PUSH: Word = Word {
     value: 0,
 };
 
+// In the tests of two crates, since neither is a library of the other's tests.
 fn fill<M: CodeMemory>(memory: &mut M, words: &[Word]) {
     for word in words {
         let _ = memory.append(*word);

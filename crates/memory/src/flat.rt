@@ -10,6 +10,7 @@ use bytecode::Word;
 use refusal::Refusal;
 
 /// The word at place i is bytes 3i to 3i + 2.
+// The number of words stands beside the bytes, since all of these are the caller's.
 #[derive(Drop)]
 pub struct Flat<'a> {
     bytes: &'a mut [u8],

@@ -64,6 +64,7 @@ fn main(rt: HostRuntime) -> anyhow::Result<ExitCode> {
         return Ok(ExitCode::FAILURE);
     }
     let text = input(&rt, file)?;
+    // As much room as a rule can need, so that only the rule can be at fault.
     let mut table = [Entry::BLANK; 512];
     let mut code = [0; 4608];
     let mut output = vec![in rt.alloc(); 0; 32768]?;

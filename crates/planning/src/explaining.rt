@@ -6,6 +6,7 @@ ghost use Rattle.planning.specs.Explanations.{place_of};
 use refusal::Refusal;
 
 /// The byte of the rule's text that a refusal points at, if it points at one.
+// Not by `Refusal::detail`, which is a number for each refusal and no place for most.
 pub fn place(refusal: Refusal) -> Option<usize>
     ensures { result ≡ place_of refusal }
 {

@@ -43,6 +43,7 @@ impl<'t, 'a> Parser<'t, 'a> {
     }
 
     /// Adds an entry, which the table gets where it has room.
+    // By its index, since a proof does not know what a write through `get_mut` leaves in the slice.
     pub(crate) fn put(&mut self, entry: Entry)
         requires { Room self.old }
         ensures { let s = view self.old in Stepped (Ok (state s.frames s.pending s.scope s.due (s.count + 1), entry ∷ [])) (Ok tt) self.old self.new }

@@ -80,6 +80,7 @@ pub(crate) fn refused(kind: TokenKind, place: usize) -> Refusal
 }
 
 /// Whether no token follows this one.
+// Three kinds, so a pattern and no `==`.
 pub(crate) fn is_last(kind: TokenKind) -> bool
     ensures { result ≡ is_last kind }
 {

@@ -4,7 +4,7 @@ use arrayvec::ArrayVec;
 
 /// A name, as the part of the text where it stands. The empty one, which a slice alone has not as its default, fills the
 /// unused places of a vector.
-#[derive(Clone, Copy)]
+#[derive(Clone, Copy, PartialEq, Eq, Debug)]
 pub struct Name<'a> {
     pub text: &'a [u8],
 }

@@ -8,21 +8,9 @@ ghost use Rattle.reader.specs.Steps.{view};
 
 use crate::kinds::is_last;
 use crate::parser::Parser;
-use bytecode::Argument;
-use language::{Entry, Kind};
+use language::Entry;
 use lexer::Lexer;
 use refusal::Refusal;
-
-// An entry that holds nothing, written out, since a constant calls no function.
-const BLANK: Entry = Entry {
-    kind: Kind::Blank,
-    number: Argument {
-        negative: false,
-        size: 0,
-    },
-    size: 0,
-    place: 0,
-};
 
 impl<'t, 'a> Parser<'t, 'a> {
     // Takes every token of the text, and answers how many entries the tree has.
@@ -67,7 +55,7 @@ pub fn read(text: &[u8], table: &mut [Entry]) -> Result<usize, Refusal>
 {
     let read = write(text, table);
     if read.is_err() {
-        table.fill(BLANK);
+        table.fill(Entry::BLANK);
     }
     read
 }

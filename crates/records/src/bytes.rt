@@ -1,4 +1,5 @@
 //! The steps of a memory, on its bytes alone. Between two steps the bytes are no memory, so these are not methods of one.
+//! A link is a number in byte 0 of a record, so it is read and written by its index.
 
 ghost use Rattle.std.specs.Prelude.{◌≡◌, ◌<◌, length};
 ghost use Rattle.memory.specs.Bytes.{put};

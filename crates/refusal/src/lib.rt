@@ -83,6 +83,7 @@ impl Part {
 
 impl Refusal {
     /// The refusal's number.
+    // Numbers of the product's own, with gaps, so no discriminants of the cases.
     pub fn number(self) -> u8
         ensures { result ≡ number_of self }
     {

@@ -13,6 +13,7 @@ use memory::CodeMemory;
 pub use written::write_all;
 
 /// What can be asked of a code memory.
+// A value and no closure: a list of these is what a caller asks, and what the ledger reads.
 #[derive(Clone, Copy, PartialEq, Eq, Debug)]
 pub enum Operation {
     Append(Word),
