@@ -28,6 +28,7 @@ fn compile<M: CodeMemory>(rule: Rule<'_>, memory: &mut M) -> Result<Card, Refusa
 
 /// Reads the text into the table, judges the rule, and writes its code as the memory's whole list; answers its card, or
 /// the first refusal of these parts, and then the memory is as it was.
+// What the table then holds is said as `read` says it, since who calls this reads no other clause.
 pub fn build<M: CodeMemory>(
     text: &[u8],
     table: &mut [Entry],

@@ -17,6 +17,7 @@ use refusal::Refusal;
 
 /// Reads the rule into the table, judges it, translates it into the code, and lists the code in the output; answers
 /// what is told of the rule, or the first refusal of these parts.
+// What the table then holds is said as `read` says it, since who calls this reads no other clause.
 pub fn plan(
     text: &[u8],
     table: &mut [Entry],

@@ -10,6 +10,7 @@ use std::io::{BufRead, BufReader};
 
 // Plans one rule, and prints its type, length and height, or the refusal.
 fn answer(rt: &HostRuntime, text: &[u8], output: &mut [u8]) -> io::Result<()> {
+    // As much room as a rule can need.
     let mut table = [Entry::BLANK; 512];
     let mut code = [0; 4608];
     match plan(text, &mut table, &mut code, output) {
