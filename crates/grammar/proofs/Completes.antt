@@ -23,7 +23,7 @@ use Rattle.language.specs.declared.token.TokenKind.{TokenKind}
 use Rattle.language.specs.declared.token.TokenKind.TheVariants.{Number, Truth, Name, Binary, Prefix, If, Then, Else, Let, In, Open, Close, End}
 use Rattle.grammar.specs.Grammar.{level, left_level, Derives, constant, truth_value, named, parens, prefixed, join, if_else, let_in, tighter}
 use Rattle.grammar.specs.Laws.{Complete}
-use Rattle.grammar.proofs.Frames.{level_low, level_top, ends_left, left_low, left_none, closed_none, scoped_none, left_left, scoped_scoped, closed_closed}
+use Rattle.grammar.proofs.Frames.{levels, ends_left, loose, none_ends, left_left, scoped_scoped, closed_closed}
 use Rattle.grammar.proofs.Trees.{length-flatten}
 
 prefixed_none : (r : Result (List Entry) Refusal) → prefixed_by [] r ≡ r
@@ -69,18 +69,9 @@ reach_tighter j k n fs ps g ts t le r =
       scope = r.scope;
       out = r.out;
       runs = r.runs;
-      stays = left_left j k r.frames le ∙ ap (left j) r.stays ∙ sym (left_left j k fs le);
-      keeps =
-          scoped_scoped j k r.frames r.scope le
-          ∙ ap (λ y. scoped j y (scoped k r.frames r.scope)) r.stays
-          ∙ ap (scoped j (left k fs)) r.keeps
-          ∙ sym (scoped_scoped j k fs g le);
-      adds =
-          all_closed j k n r.frames r.out le
-          ∙ ap (λ y. y ++ closed j (left k r.frames) (n + length y)) (r.adds ∙ ap (λ i. x ++ closed k fs i) m)
-          ∙ ap (λ y. (x ++ closed k fs (n + length x)) ++ closed j y (n + length (x ++ closed k fs (n + length x)))) r.stays
-          ∙ sym (all_closed j k n fs x le)
-          ∙ ap (λ i. x ++ closed j fs i) (sym m);
+      stays = cc (left_left j k r.frames le, left_left j k fs le);
+      keeps = cc (scoped_scoped j k r.frames r.scope le, scoped_scoped j k fs g le);
+      adds = cc (all_closed j k n r.frames r.out le, all_closed j k n fs x le);
     }
 
 -- an operand that leaves the frames as they were
@@ -196,10 +187,11 @@ reach_join d n fs ps g x o ts us t u h xe a b =
     let j = left_level o in
     let m = n + size t in
     let f = frame (BinaryMark o) x.place n m in
-    let low = left_low o in
+    let lo = levels o in
     let below : above fs < level o = h.looser o (omega arith) in
     let under : above fs < left_level o = omega arith in
     let ne : (above fs ≡ level o → ⊥) = λ i. omega arith in
+    let apart = none_ends j fs m g (loose j fs under) in
     let le : level o ≤ suc (level o) = omega arith in
     let own : level o ≤ level o = omega arith in
     let long : m + size u + 1 - n ≡ size t + size u + 1 = omega arith in
@@ -210,7 +202,7 @@ reach_join d n fs ps g x o ts us t u h xe a b =
     (λ rest.
     ap (feeds (state fs ps g Operand n)) (append_assoc ts (x ∷ us) rest)
     ∙ goes_on j n fs ps g ts (us ++ rest) t x (Binary o) (state (f ∷ fs) ps g Operand m) (joined o x.place) a
-    (left_none j fs under) (scoped_none j fs g under) (closed_none j fs m under) xe
+    apart.0 apart.1.1 apart.1.0 xe
     (λ s. ap (λ i. joined o x.place (ended i s) (endings i s)) (ends_left o))
     (λ es.
     cond-false _ (Err (Unexpected x.place)) (Ok (opened (BinaryMark o) x.place (start fs) Operand (state fs ps g OperatorDue m), es)) (ne_eqb (above fs) (level o) ne)
@@ -263,7 +255,7 @@ reach_let d n fs ps g x i q y ts us t u h xe ie qe ye a b =
 
 -- what may stand behind an open bracket or word
 fits_in : (m : Mark) (p n l d : ℕ) (fs : List Frame) → above (frame m p n l ∷ fs) ≡ 0 → deep (frame m p n l ∷ fs) ≡ deep fs + 1 → deep fs + suc d ≤ 64 → Fits 0 d (frame m p n l ∷ fs) l
-fits_in m p n l d fs a e h = record { starts = refl; deeper = omega arith; looser = λ o i. omega (arith, level_low o); outside = λ i. a }
+fits_in m p n l d fs a e h = record { starts = refl; deeper = omega arith; looser = λ o i. omega (arith, levels o); outside = λ i. a }
 
 reach : {k : ℕ} {g : List (List ℕ)} {d : ℕ} {ts : List Lexeme} {t : Tree} → Derives k g d ts t → (fs : List Frame) (ps : List (List ℕ)) (n : ℕ) → Fits k d fs n →
     Reached k fs ps g n ts t
@@ -280,13 +272,13 @@ reach (parens {g} {d} x y {ts} {t} e r f) fs ps n h =
 reach (prefixed {g} {d} x {ts} {t} o e r) fs ps n h =
     reach_prefix d n fs ps g x o ts t h.deeper e
     (reach r (frame (PrefixMark o) x.place n n ∷ fs) ps n
-    (record { starts = refl; deeper = omega (arith, h.deeper); looser = λ i l. absurd (omega (arith, level_top i)); outside = λ l. absurd (omega arith) }))
+    (record { starts = refl; deeper = omega (arith, h.deeper); looser = λ i l. absurd (omega (arith, levels i)); outside = λ l. absurd (omega arith) }))
 reach (join {g} {d} x {ts} {us} {t} {u} o r e q) fs ps n h =
     reach_join d n fs ps g x o ts us t u h e
     (reach r fs ps n
-    (record { starts = h.starts; deeper = h.deeper; looser = λ i l. h.looser i (omega (arith, left_low o)); outside = λ l. absurd (omega (arith, left_low o, level_low o)) }))
+    (record { starts = h.starts; deeper = h.deeper; looser = λ i l. h.looser i (omega (arith, levels o)); outside = λ l. absurd (omega (arith, levels o)) }))
     (reach q (frame (BinaryMark o) x.place n (n + size t) ∷ fs) ps (n + size t)
-    (record { starts = refl; deeper = h.deeper; looser = λ i l. omega arith; outside = λ l. absurd (omega (arith, level_low o)) }))
+    (record { starts = refl; deeper = h.deeper; looser = λ i l. omega arith; outside = λ l. absurd (omega (arith, levels o)) }))
 reach (if_else {g} {d} x y z {ts} {us} {vs} {t} {u} {v} xe r ye q ze w) fs ps n h =
     reach_if d n fs ps g x y z ts us vs t u v h xe ye ze
     (reach r (frame Condition x.place n n ∷ fs) ps n (fits_in Condition x.place n n d fs refl refl h.deeper))
@@ -303,6 +295,6 @@ reach (tighter {k} {g} {d} {ts} {t} r) fs ps n h =
 
 pub complete : Complete
 complete ts e t r k =
-    let a = reach r [] [] 0 (record { starts = refl; deeper = omega arith; looser = λ o l. omega (arith, level_low o); outside = λ l. refl }) in
+    let a = reach r [] [] 0 (record { starts = refl; deeper = omega arith; looser = λ o l. omega (arith, levels o); outside = λ l. refl }) in
     goes_on 0 0 [] [] [] ts [] t e End (state [] [] [] OperatorDue (0 + size t)) (finished e.place) a refl refl refl k (λ s. refl) (λ es. refl)
     ∙ ap Ok (append-nil (flatten t))

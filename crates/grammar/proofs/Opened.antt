@@ -1,21 +1,21 @@
 -- What has been read while frames are open, and what it becomes where they end.
-use Rattle.std.proofs.Common.{◌≡◌, ℕ, zero, suc, ◌+◌, ◌-◌, ◌<◌, ◌≤◌, true, false, leb, List, [], ◌∷◌, ◌++◌, length, drop, sym, refl, ap, ◌∙◌, subst, inl, inr, append_assoc, arith, length-append}
+use Rattle.std.proofs.Common.{◌≡◌, ℕ, zero, suc, ◌+◌, ◌-◌, ◌<◌, ◌≤◌, Bool, true, false, List, [], ◌∷◌, ◌++◌, length, drop, sym, refl, ap, ◌∙◌, subst, inl, inr, append_assoc, arith, length-append}
 use Rattle.std.proofs.lemmas.List.{append-nil}
-use Rattle.std.proofs.lemmas.Bool.{cond-true, cond-false, leb-true, cases_eq}
+use Rattle.std.proofs.lemmas.Bool.{cond-true, leb-true, cases_eq}
 use Rattle.bytecode.specs.Words.{plus}
-use Rattle.language.specs.Frames.{left, closed, scoped, leaving, level_by, frame, deep, above, start, binds, joint, kind_of}
+use Rattle.language.specs.Frames.{left, closed, scoped, leaving, frame, deep, above, start, binds, joint, kind_of}
 use Rattle.language.specs.Tokens.{Lexeme}
 use Rattle.language.specs.Tree.{Tree, prefix, binary, choose, bind, size, entry, flatten}
 use Rattle.language.specs.declared.entry.Entry.{Entry}
 use Rattle.language.specs.declared.frame.Frame.{Frame}
 use Rattle.language.specs.declared.frame.Mark.{Mark}
-use Rattle.language.specs.declared.frame.Mark.TheVariants.{Paren, Condition, Then as ThenMark, Else as ElseMark, Binder, Value, Body, Binary as BinaryMark, Prefix as PrefixMark}
+use Rattle.language.specs.declared.frame.Mark.TheVariants.{Paren, Condition, Then as ThenMark, Else as ElseMark, Value, Body, Binary as BinaryMark, Prefix as PrefixMark}
 use Rattle.language.specs.declared.operator.Operator.{Operator}
 use Rattle.language.specs.declared.operator.Operator.TheVariants.{Equal}
 use Rattle.language.specs.declared.operator.Prefix.{Prefix as PrefixOperator}
 use Rattle.language.specs.declared.token.TokenKind.TheVariants.{Name, Binary, Prefix, If, Then, Else, Let, In, Open}
 use Rattle.grammar.specs.Grammar.{level, left_level, Derives, prefixed, join, if_else, let_in, tighter}
-use Rattle.grammar.proofs.Frames.{by_cases, level_low, level_top}
+use Rattle.grammar.proofs.Frames.{levels, top_binds, none_ends}
 use Rattle.grammar.proofs.Trees.{length-flatten}
 
 -- the tokens ts left the frames fs open with the entries es, the names ps of the lets in their first expression and
@@ -79,67 +79,25 @@ lower {g} {d} {ts} {t} zero k h r = let e : 0 ≡ k = omega arith in subst (λ x
 lower {g} {d} {ts} {t} (suc j) k h r =
     elim (cases_eq (suc j) k) [ inl e ↦ subst (λ x. Derives x g d ts t) e r | inr e ↦ lower j k (omega arith) (tighter r) ]
 
--- the level of an operand that may follow a frame
-abbrev TakesBy : Mark → ℕ → Type 0
-TakesBy Paren j = 0 ≤ j
-TakesBy Condition j = 0 ≤ j
-TakesBy ThenMark j = 0 ≤ j
-TakesBy ElseMark j = 0 ≤ j
-TakesBy Binder j = 0 ≤ j
-TakesBy Value j = 0 ≤ j
-TakesBy Body j = 0 ≤ j
-TakesBy (BinaryMark o) j = level o < j
-TakesBy (PrefixMark o) j = 6 ≤ j
+-- the loosest level of an operand that may follow a frame
+abbrev floor_by : Mark → ℕ
+floor_by (BinaryMark o) = suc (level o)
+floor_by (PrefixMark o) = 6
+floor_by _ = 0
 
-abbrev pub Takes : List Frame → ℕ → Type 0
-Takes [] j = 0 ≤ j
-Takes (f ∷ fs) j = TakesBy f.mark j
+abbrev pub floor : List Frame → ℕ
+floor [] = 0
+floor (f ∷ fs) = floor_by f.mark
 
 -- an operand that is tighter than what is on top may follow, and so may any expression behind an open bracket or word
-tighter_by : (m : Mark) (j : ℕ) → level_by m < j → TakesBy m j
-tighter_by Paren j l = omega arith
-tighter_by Condition j l = omega arith
-tighter_by ThenMark j l = omega arith
-tighter_by ElseMark j l = omega arith
-tighter_by Binder j l = omega arith
-tighter_by Value j l = omega arith
-tighter_by Body j l = omega arith
-tighter_by (BinaryMark o) j l = l
-tighter_by (PrefixMark o) j l = omega arith
+floor_above : (fs : List Frame) (j : ℕ) → above fs < j → floor fs ≤ j
+floor_above fs j l = grind arith
 
-tighter_takes : (fs : List Frame) (j : ℕ) → above fs < j → Takes fs j
-tighter_takes [] j l = omega arith
-tighter_takes (f ∷ fs) j l = tighter_by f.mark j l
+floor_whole : (fs : List Frame) → above fs ≡ 0 → floor fs ≤ 0
+floor_whole fs l = grind (arith, levels)
 
-whole_by : (m : Mark) → level_by m ≡ 0 → TakesBy m 0
-whole_by Paren l = omega arith
-whole_by Condition l = omega arith
-whole_by ThenMark l = omega arith
-whole_by ElseMark l = omega arith
-whole_by Binder l = omega arith
-whole_by Value l = omega arith
-whole_by Body l = omega arith
-whole_by (BinaryMark o) l = absurd (omega (arith, level_low o))
-whole_by (PrefixMark o) l = absurd (omega arith)
-
-whole_takes : (fs : List Frame) → above fs ≡ 0 → Takes fs 0
-whole_takes [] l = omega arith
-whole_takes (f ∷ fs) l = whole_by f.mark l
-
-operand_by : (m : Mark) → TakesBy m 6
-operand_by Paren = omega arith
-operand_by Condition = omega arith
-operand_by ThenMark = omega arith
-operand_by ElseMark = omega arith
-operand_by Binder = omega arith
-operand_by Value = omega arith
-operand_by Body = omega arith
-operand_by (BinaryMark o) = omega (arith, level_top o)
-operand_by (PrefixMark o) = omega arith
-
-pub operand_takes : (fs : List Frame) → Takes fs 6
-operand_takes [] = omega arith
-operand_takes (f ∷ fs) = operand_by f.mark
+pub floor_operand : (fs : List Frame) → floor fs ≤ 6
+floor_operand fs = grind (arith, levels)
 
 -- once all that binds at the level k has ended
 pub record Closes (k : ℕ) (fs : List Frame) (ps g : List (List ℕ)) (es : List Entry) (ts : List Lexeme) (us : List Lexeme) (t : Tree) : Type 0 where
@@ -153,23 +111,21 @@ pub record Closes (k : ℕ) (fs : List Frame) (ps g : List (List ℕ)) (es : Lis
   pub tokens : front ++ part ≡ ts ++ us
   pub entries : out ++ flatten tree ≡ (es ++ flatten t) ++ closed k fs (length (es ++ flatten t))
 
--- a frame that does not end
-stops : (k d : ℕ) (f : Frame) (fs : List Frame) (ps g : List (List ℕ)) (es : List Entry) (ts us : List Lexeme) (t : Tree) → binds k f.mark ≡ false →
-    Opened (f ∷ fs) ps g es ts d → Derives k g d us t → Closes k (f ∷ fs) ps g es ts us t
-stops k d f fs ps g es ts us t b q r =
-    let stay : left k (f ∷ fs) ≡ f ∷ fs = cond-false _ _ _ b in
-    let same : scoped k (f ∷ fs) g ≡ g = cond-false _ _ _ b in
-    let none : closed k (f ∷ fs) (length (es ++ flatten t)) ≡ [] = cond-false _ _ _ b in
+-- frames of which none ends
+stops : (k d : ℕ) (fs : List Frame) (ps g : List (List ℕ)) (es : List Entry) (ts us : List Lexeme) (t : Tree) → top_binds k fs ≡ false →
+    Opened fs ps g es ts d → Derives k g d us t → Closes k fs ps g es ts us t
+stops k d fs ps g es ts us t b q r =
+    let stay = none_ends k fs (length (es ++ flatten t)) g b in
     record {
       d = d;
       out = es;
       front = ts;
       part = us;
       tree = t;
-      still = subst (λ y. Opened y ps (scoped k (f ∷ fs) g) es ts d) (sym stay) (subst (λ y. Opened (f ∷ fs) ps y es ts d) (sym same) q);
-      derived = subst (λ y. Derives k y d us t) (sym same) r;
+      still = rw (stay.0, stay.1.1) q;
+      derived = rw stay.1.1 r;
       tokens = refl;
-      entries = sym (append-nil (es ++ flatten t)) ∙ ap (λ y. (es ++ flatten t) ++ y) (sym none);
+      entries = rw (stay.1.0, append-nil);
     }
 
 -- an entry that ends a part: what stands before it, with it, and what ends after it
@@ -196,10 +152,8 @@ finishes k f fs ps g g' es es' xs e ts ts' us vs t v b ge ee je fe te c =
       front = c.front;
       part = c.part;
       tree = c.tree;
-      still =
-          subst (λ y. Opened y ps (scoped k (f ∷ fs) g') c.out c.front c.d) (sym stay)
-          (subst (λ y. Opened (left k fs) ps y c.out c.front c.d) (sym same) c.still);
-      derived = subst (λ y. Derives k y c.d c.part c.tree) (sym same) c.derived;
+      still = rw (stay, same) c.still;
+      derived = rw same c.derived;
       tokens = c.tokens ∙ te;
       entries =
           c.entries
@@ -222,50 +176,30 @@ regroup : (a b c : List Lexeme) (x : Lexeme) → a ++ (b ++ x ∷ c) ≡ (a ++ (
 regroup a b c x = simp append_assoc
 
 pub closes : {fs : List Frame} {ps g : List (List ℕ)} {es : List Entry} {ts : List Lexeme} {d : ℕ} → Opened fs ps g es ts d → (j k : ℕ) (us : List Lexeme) (t : Tree) →
-    Takes fs j → k ≤ j → Derives j g d us t → Closes k fs ps g es ts us t
-closes nothing j k us t a h r =
-    record { d = 64; out = []; front = []; part = us; tree = t; still = nothing; derived = lower j k h r; tokens = refl; entries = sym (append-nil (flatten t)) }
-closes (inside {fs} {ps} {g} {es} {ts} {ts'} {d} x q xe we ne te) j k us t a h r = stops k d _ fs ps g es ts' us t refl (inside x q xe we ne te) (lower j k h r)
-closes (asking {fs} {ps} {g} {es} {ts} {ts'} {d} x q l xe pe we ne te) j k us t a h r =
-    stops k d _ fs ps g es ts' us t refl (asking x q l xe pe we ne te) (lower j k h r)
-closes (taking {fs} {ps} {g} {es} {es'} {ts} {us} {ts'} {t} {d} x y q l xe c ye pe we ne ee te) j k vs v a h r =
-    stops k d _ fs ps g es' ts' vs v refl (taking x y q l xe c ye pe we ne ee te) (lower j k h r)
-closes (valuing {fs} {ps} {ps'} {g} {es} {ts} {ts'} {d} x m e q l xe me ie he pe we ne te) j k us t a h r =
-    stops k d _ fs ps' g es ts' us t refl (valuing x m e q l xe me ie he pe we ne te) (lower j k h r)
-closes (before {fs} {ps} {g} {es} {ts} {ts'} {d} {p} {w} {n} x o q xe pe we ne te) j k us t a h r =
-    by_cases (leb k 6) _
-    (λ b.
+    floor fs ≤ j → k ≤ j → Derives j g d us t → (b : Bool) → top_binds k fs ≡ b → Closes k fs ps g es ts us t
+closes {fs} {ps} {g} {es} {ts} {d} q j k us t a h r false b = stops k d fs ps g es ts us t b q (lower j k h r)
+closes (before {fs} {ps} {g} {es} {ts} {ts'} {d} {p} {w} {n} x o q xe pe we ne te) j k us t a h r true b =
     finishes k (frame (PrefixMark o) p w n) fs ps g g es es [] _ ts ts' (x ∷ us) us (prefix o x.place t) t b refl (sym (append-nil es))
     (made (PrefixMark o) p w n x.place es es [] (flatten t) (size t) we pe (sym (append-nil es)) (omega (arith, length-flatten t))) refl
     (regroup ts [] us x ∙ ap (λ y. y ++ us) (sym te))
-    (closes q 6 k (x ∷ us) (prefix o x.place t) (operand_takes fs) (leb-true k 6 b) (prefixed x o xe (lower j 6 a r))))
-    (λ b. stops k d _ fs ps g es ts' us t b (before x o q xe pe we ne te) (lower j k h r))
-closes (behind {fs} {ps} {g} {es} {es'} {ts} {us} {ts'} {t} {d} {p} {w} {n} x o q l c xe pe we ne ee te) j k vs v a h r =
-    let low = level_low o in
-    by_cases (leb k (level o)) _
-    (λ b.
+    (closes q 6 k (x ∷ us) (prefix o x.place t) (floor_operand fs) (leb-true k 6 b) (prefixed x o xe (lower j 6 a r)) _ refl)
+closes (behind {fs} {ps} {g} {es} {es'} {ts} {us} {ts'} {t} {d} {p} {w} {n} x o q l c xe pe we ne ee te) j k vs v a h r true b =
     finishes k (frame (BinaryMark o) p w n) fs ps g g es es' (flatten t) _ ts ts' (us ++ x ∷ vs) vs (binary o x.place t v) v b refl ee
     (made (BinaryMark o) p w n x.place es es' (flatten t) (flatten v) (size t + size v) we pe ee (omega (arith, length-flatten t, length-flatten v))) refl
     (regroup ts us vs x ∙ ap (λ y. y ++ vs) (sym te))
-    (closes q (level o) k (us ++ x ∷ vs) (binary o x.place t v) (tighter_takes fs (level o) l) (leb-true k (level o) b)
-    (join x o c xe (lower j (suc (level o)) a r))))
-    (λ b. stops k d _ fs ps g es' ts' vs v b (behind x o q l c xe pe we ne ee te) (lower j k h r))
-closes (leaving_it {fs} {ps} {g} {es} {es'} {ts} {us} {vs} {ts'} {t} {u} {d} {p} {w} {n} x y z q l xe c ye i ze pe we ne ee te) j k ws v a h r =
-    by_cases (leb k 0) _
-    (λ b.
+    (closes q (level o) k (us ++ x ∷ vs) (binary o x.place t v) (floor_above fs (level o) l) (leb-true k (level o) b)
+    (join x o c xe (lower j (suc (level o)) a r)) _ refl)
+closes (leaving_it {fs} {ps} {g} {es} {es'} {ts} {us} {vs} {ts'} {t} {u} {d} {p} {w} {n} x y z q l xe c ye i ze pe we ne ee te) j k ws v a h r true b =
     finishes k (frame ElseMark p w n) fs ps g g es es' (flatten t ++ flatten u) _ ts ts' (x ∷ (us ++ y ∷ (vs ++ z ∷ ws))) ws (choose x.place t u v) v b refl ee
     (made ElseMark p w n x.place es es' (flatten t ++ flatten u) (flatten v) (size t + size u + size v) we pe ee (simp (length-append, length-flatten) (omega arith)))
     (sym (append_assoc (flatten t) (flatten u) _))
     (sym (ap (λ i. i ++ ws) te ∙ simp append_assoc))
-    (closes q 0 k (x ∷ (us ++ y ∷ (vs ++ z ∷ ws))) (choose x.place t u v) (whole_takes fs l) (leb-true k 0 b)
-    (if_else x y z xe c ye i ze (lower j 0 a r))))
-    (λ b. stops k d _ fs ps g es' ts' ws v b (leaving_it x y z q l xe c ye i ze pe we ne ee te) (lower j k h r))
-closes (binding {fs} {ps} {g} {g'} {es} {es'} {ts} {us} {ts'} {t} {d} {p} {w} {n} x m e y q l xe me ie c ye ge pe we ne ee te) j k vs v a h r =
-    by_cases (leb k 0) _
-    (λ b.
+    (closes q 0 k (x ∷ (us ++ y ∷ (vs ++ z ∷ ws))) (choose x.place t u v) (floor_whole fs l) (leb-true k 0 b)
+    (if_else x y z xe c ye i ze (lower j 0 a r)) _ refl)
+closes (binding {fs} {ps} {g} {g'} {es} {es'} {ts} {us} {ts'} {t} {d} {p} {w} {n} x m e y q l xe me ie c ye ge pe we ne ee te) j k vs v a h r true b =
     finishes k (frame Body p w n) fs ps g g' es es' (flatten t) _ ts ts' (x ∷ m ∷ e ∷ (us ++ y ∷ vs)) vs (bind x.place t v) v b (ap (drop 1) ge) ee
     (made Body p w n x.place es es' (flatten t) (flatten v) (size t + size v) we pe ee (omega (arith, length-flatten t, length-flatten v))) refl
     (sym (ap (λ i. i ++ vs) te ∙ simp append_assoc))
-    (closes q 0 k (x ∷ m ∷ e ∷ (us ++ y ∷ vs)) (bind x.place t v) (whole_takes fs l) (leb-true k 0 b)
-    (let_in x m e y xe me ie c ye (subst (λ i. Derives 0 i d vs v) ge (lower j 0 a r)))))
-    (λ b. stops k d _ fs ps g' es' ts' vs v b (binding x m e y q l xe me ie c ye ge pe we ne ee te) (lower j k h r))
+    (closes q 0 k (x ∷ m ∷ e ∷ (us ++ y ∷ vs)) (bind x.place t v) (floor_whole fs l) (leb-true k 0 b)
+    (let_in x m e y xe me ie c ye (subst (λ i. Derives 0 i d vs v) ge (lower j 0 a r))) _ refl)
+closes _ j k us t a h r true b = cc

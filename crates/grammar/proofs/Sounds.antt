@@ -1,7 +1,7 @@
 -- What is read, the grammar derives.
 use Rattle.std.proofs.Common.{◌≡◌, ℕ, zero, suc, ◌+◌, ◌<◌, ◌≤◌, cond, eqb, ltb, List, [], ◌∷◌, ◌++◌, length, take, drop, Some, None, Ok, Err, Option, Result, sym, refl, ap, ◌∙◌, subst, append_assoc, arith, length-append}
 use Rattle.std.proofs.lemmas.List.{append-nil}
-use Rattle.std.proofs.lemmas.Bool.{cond-true, cond-false, ltb-true, eqb-true, eqb-false}
+use Rattle.std.proofs.lemmas.Bool.{cond_both, ltb-true, eqb-true, eqb-false}
 use Rattle.refusal.specs.declared.Refusal.{Refusal}
 use Rattle.refusal.specs.declared.Refusal.TheVariants.{Unexpected, TooDeep}
 use Rattle.bytecode.specs.Words.{plus}
@@ -18,13 +18,13 @@ use Rattle.language.specs.declared.frame.Frame.{Frame}
 use Rattle.language.specs.declared.frame.Mark.{Mark}
 use Rattle.language.specs.declared.frame.Mark.TheVariants.{Paren, Condition, Then as ThenMark, Else as ElseMark, Binder, Value, Body, Binary as BinaryMark, Prefix as PrefixMark}
 use Rattle.language.specs.declared.operator.Operator.{Operator}
-use Rattle.language.specs.declared.operator.Operator.TheVariants.{Or, And, Equal, AtMost, Plus, Times}
+use Rattle.language.specs.declared.operator.Operator.TheVariants.{Equal}
 use Rattle.language.specs.declared.token.TokenKind.{TokenKind}
-use Rattle.language.specs.declared.token.TokenKind.TheVariants.{Number, Truth, Name, Binary, Prefix, If, Then, Else, Let, In, Open, Close, End, TooLarge, Bad}
+use Rattle.language.specs.declared.token.TokenKind.TheVariants.{Number, Truth, Name, Binary, Prefix, If, Then, Else, Let, In, Open, Close, End}
 use Rattle.grammar.specs.Grammar.{level, left_level, Derives, constant, truth_value, named, parens, Rule}
 use Rattle.grammar.specs.Laws.{Endless, Sound}
-use Rattle.grammar.proofs.Frames.{by_cases, level_low, level_top, ends_left, left_low, left_top, above_left}
-use Rattle.grammar.proofs.Opened.{Opened, nothing, inside, before, behind, asking, taking, leaving_it, valuing, binding, starts, depths, operand_takes, Closes, closes}
+use Rattle.grammar.proofs.Frames.{levels, ends_left, above_left}
+use Rattle.grammar.proofs.Opened.{Opened, nothing, inside, before, behind, asking, taking, leaving_it, valuing, binding, starts, depths, floor_operand, Closes, closes}
 
 -- an operand is due
 record Waits (s : State) (out : List Entry) (ts : List Lexeme) : Type 0 where
@@ -87,7 +87,23 @@ data Reads : State → List Entry → List Lexeme → Type 0 where
   got : {s : State} {out : List Entry} {ts : List Lexeme} → Got s out ts → Reads s out ts
 
 pub err_ok : {X : Type 0} {P : Type 0} (d : Refusal) (u : X) → ◌≡◌ {A = Result X Refusal} (Err d) (Ok u) → P
-err_ok d u e = let z : ◌≡◌ {A = ℕ} 0 1 = cc in absurd (omega arith)
+err_ok d u e = cc
+
+-- tokens that are read: what the first adds, and the rest
+pub record Fed (y : Step) (f : State → Result (List Entry) Refusal) (es : List Entry) : Type 0 where
+  pub next : State × List Entry
+  pub rest : List Entry
+  pub went : y ≡ Ok next
+  pub then : f next.0 ≡ Ok rest
+  pub all : next.1 ++ rest ≡ es
+
+pub fed : (y : Step) (f : State → Result (List Entry) Refusal) (es : List Entry) → followed y f ≡ Ok es → Fed y f es
+fed (Err d) f es h = err_ok d es h
+fed (Ok u) f es h = go (f u.0) refl h
+  where
+    go : (r : Result (List Entry) Refusal) → f u.0 ≡ r → prefixed u.1 r ≡ Ok es → Fed (Ok u) f es
+    go (Err d) e h = err_ok d es h
+    go (Ok fs) e h = record { next = u; rest = fs; went = refl; then = e; all = cc }
 
 moves : (s v : State) (xs ys out o : List Entry) (ts : List Lexeme) → Reads s o ts → o ≡ out ++ xs → ◌≡◌ {A = Step} (Ok (s, xs)) (Ok (v, ys)) → Reads v (out ++ ys) ts
 moves s v xs ys out o ts r oe e =
@@ -125,11 +141,8 @@ nests : (s v : State) (out ys : List Entry) (ts : List Lexeme) (x : Lexeme) (m :
     ((d : ℕ) → Opened s.frames s.pending s.scope out ts (suc d) → Reads (opened m x.place s.count w s) out (ts ++ x ∷ [])) →
     enter m x.place w s ≡ Ok (v, ys) → Reads v (out ++ ys) (ts ++ x ∷ [])
 nests s v out ys ts x m w r f e =
-    by_cases (ltb (deep s.frames) 64) _
-    (λ b.
-    moves _ v _ ys out out _ (less r.d r.still (ltb-true _ _ b)) (sym (append-nil out))
-    (sym (cond-true _ (going (opened m x.place s.count w s)) (Err (TooDeep x.place)) b) ∙ e))
-    (λ b. err_ok _ (v, ys) (sym (cond-false _ (going (opened m x.place s.count w s)) (Err (TooDeep x.place)) b) ∙ e))
+    cond_both (ltb (deep s.frames) 64) (going (opened m x.place s.count w s)) (Err (TooDeep x.place)) (λ i. i ≡ Ok (v, ys) → Reads v (out ++ ys) (ts ++ x ∷ []))
+    (λ b i. moves _ v _ ys out out _ (less r.d r.still (ltb-true _ _ b)) (sym (append-nil out)) i) (λ b i. err_ok _ _ i) e
   where
     less : (d : ℕ) → Opened s.frames s.pending s.scope out ts d → deep s.frames < 64 → Reads (opened m x.place s.count w s) out (ts ++ x ∷ [])
     less zero q h = absurd (omega (arith, depths q))
@@ -139,9 +152,8 @@ nests_whole : (s v : State) (out ys : List Entry) (ts : List Lexeme) (x : Lexeme
     ((d : ℕ) → above s.frames ≡ 0 → Opened s.frames s.pending s.scope out ts (suc d) → Reads (opened m x.place s.count w s) out (ts ++ x ∷ [])) →
     enter_whole m x.place w s ≡ Ok (v, ys) → Reads v (out ++ ys) (ts ++ x ∷ [])
 nests_whole s v out ys ts x m w r f e =
-    by_cases (eqb (above s.frames) 0) _
-    (λ b. nests s v out ys ts x m w r (λ d q. f d (eqb-true _ _ b) q) (sym (cond-true _ (enter m x.place w s) (Err (Unexpected x.place)) b) ∙ e))
-    (λ b. err_ok _ (v, ys) (sym (cond-false _ (enter m x.place w s) (Err (Unexpected x.place)) b) ∙ e))
+    cond_both (eqb (above s.frames) 0) (enter m x.place w s) (Err (Unexpected x.place)) (λ i. i ≡ Ok (v, ys) → Reads v (out ++ ys) (ts ++ x ∷ []))
+    (λ b i. nests s v out ys ts x m w r (λ d q. f d (eqb-true _ _ b) q) i) (λ b i. err_ok _ _ i) e
 
 after_waits : (s v : State) (out ys : List Entry) (ts : List Lexeme) (x : Lexeme) (k : TokenKind) → x.kind ≡ k → Waits s out ts →
     begun (opening_of k) s k x.place x.text ≡ Ok (v, ys) → Reads v (out ++ ys) (ts ++ x ∷ [])
@@ -162,14 +174,7 @@ after_waits s v out ys ts x Let k r e =
     nests_whole s v out ys ts x Binder BinderDue r
     (λ d a q.
     lets (record { d = d; fs = s.frames; front = ts; word = x; still = q; outside = a; frames = refl; opens = k; tokens = refl; idle = refl; counts = r.counts })) e
-after_waits s v out ys ts x (Binary o) k r e = err_ok _ (v, ys) e
-after_waits s v out ys ts x Then k r e = err_ok _ (v, ys) e
-after_waits s v out ys ts x Else k r e = err_ok _ (v, ys) e
-after_waits s v out ys ts x In k r e = err_ok _ (v, ys) e
-after_waits s v out ys ts x Close k r e = err_ok _ (v, ys) e
-after_waits s v out ys ts x End k r e = err_ok _ (v, ys) e
-after_waits s v out ys ts x TooLarge k r e = err_ok _ (v, ys) e
-after_waits s v out ys ts x Bad k r e = err_ok _ (v, ys) e
+after_waits s v out ys ts x _ k r e = err_ok _ (v, ys) e
 
 -- the name of a let
 after_lets : (s v : State) (out ys : List Entry) (ts : List Lexeme) (x : Lexeme) (k : TokenKind) → x.kind ≡ k → Lets s out ts →
@@ -194,20 +199,7 @@ after_lets s v out ys ts x Name k r e =
       counts = r.counts;
     } in
     moves _ v _ ys out out _ (names g) (sym (append-nil out)) e
-after_lets s v out ys ts x (Number n) k r e = err_ok _ (v, ys) e
-after_lets s v out ys ts x (Truth b) k r e = err_ok _ (v, ys) e
-after_lets s v out ys ts x (Binary o) k r e = err_ok _ (v, ys) e
-after_lets s v out ys ts x (Prefix o) k r e = err_ok _ (v, ys) e
-after_lets s v out ys ts x If k r e = err_ok _ (v, ys) e
-after_lets s v out ys ts x Then k r e = err_ok _ (v, ys) e
-after_lets s v out ys ts x Else k r e = err_ok _ (v, ys) e
-after_lets s v out ys ts x Let k r e = err_ok _ (v, ys) e
-after_lets s v out ys ts x In k r e = err_ok _ (v, ys) e
-after_lets s v out ys ts x Open k r e = err_ok _ (v, ys) e
-after_lets s v out ys ts x Close k r e = err_ok _ (v, ys) e
-after_lets s v out ys ts x End k r e = err_ok _ (v, ys) e
-after_lets s v out ys ts x TooLarge k r e = err_ok _ (v, ys) e
-after_lets s v out ys ts x Bad k r e = err_ok _ (v, ys) e
+after_lets s v out ys ts x _ k r e = err_ok _ (v, ys) e
 
 -- the `=` of a let
 equates : (s v : State) (out ys : List Entry) (ts : List Lexeme) (x : Lexeme) → x.kind ≡ Binary Equal → Names s out ts →
@@ -229,29 +221,11 @@ equates s v out ys ts x k r e =
 after_names : (s v : State) (out ys : List Entry) (ts : List Lexeme) (x : Lexeme) (k : TokenKind) → x.kind ≡ k → Names s out ts →
     equated s k x.place ≡ Ok (v, ys) → Reads v (out ++ ys) (ts ++ x ∷ [])
 after_names s v out ys ts x (Binary Equal) k r e = equates s v out ys ts x k r e
-after_names s v out ys ts x (Binary Or) k r e = err_ok _ (v, ys) e
-after_names s v out ys ts x (Binary And) k r e = err_ok _ (v, ys) e
-after_names s v out ys ts x (Binary AtMost) k r e = err_ok _ (v, ys) e
-after_names s v out ys ts x (Binary Plus) k r e = err_ok _ (v, ys) e
-after_names s v out ys ts x (Binary Times) k r e = err_ok _ (v, ys) e
-after_names s v out ys ts x (Number n) k r e = err_ok _ (v, ys) e
-after_names s v out ys ts x (Truth b) k r e = err_ok _ (v, ys) e
-after_names s v out ys ts x Name k r e = err_ok _ (v, ys) e
-after_names s v out ys ts x (Prefix o) k r e = err_ok _ (v, ys) e
-after_names s v out ys ts x If k r e = err_ok _ (v, ys) e
-after_names s v out ys ts x Then k r e = err_ok _ (v, ys) e
-after_names s v out ys ts x Else k r e = err_ok _ (v, ys) e
-after_names s v out ys ts x Let k r e = err_ok _ (v, ys) e
-after_names s v out ys ts x In k r e = err_ok _ (v, ys) e
-after_names s v out ys ts x Open k r e = err_ok _ (v, ys) e
-after_names s v out ys ts x Close k r e = err_ok _ (v, ys) e
-after_names s v out ys ts x End k r e = err_ok _ (v, ys) e
-after_names s v out ys ts x TooLarge k r e = err_ok _ (v, ys) e
-after_names s v out ys ts x Bad k r e = err_ok _ (v, ys) e
+after_names s v out ys ts x _ k r e = err_ok _ (v, ys) e
 
 closing : (s : State) (out : List Entry) (ts : List Lexeme) (k : ℕ) → k ≤ 6 → (g : Got s out ts) →
     Closes k s.frames s.pending s.scope g.es g.front g.part g.tree
-closing s out ts k h g = closes g.still 6 k g.part g.tree (operand_takes s.frames) h g.derived
+closing s out ts k h g = closes g.still 6 k g.part g.tree (floor_operand s.frames) h g.derived _ refl
 
 closed_out : (s : State) (out : List Entry) (ts : List Lexeme) (k : ℕ) (g : Got s out ts)
     (c : Closes k s.frames s.pending s.scope g.es g.front g.part g.tree) →
@@ -289,14 +263,7 @@ after_then (asking {fs} {ps} {g} {es} {ts = us} {ts'} {d} {p} {w = wh} {n = fi} 
     let r : Waits (state (frame ThenMark p wh n ∷ fs) ps g Operand n) (out ++ zs) (ts ++ x ∷ []) =
     record { d = d; still = taking y x q a ye o.derived k pe we o.counts o.entries whole; idle = refl; counts = o.counts } in
     moves _ v _ ys out _ _ (waits r) refl e
-after_then nothing w n v zs ys out ts x o k e = err_ok _ (v, ys) e
-after_then (inside y q xe we ne te) w n v zs ys out ts x o k e = err_ok _ (v, ys) e
-after_then (before y i q xe pe we ne te) w n v zs ys out ts x o k e = err_ok _ (v, ys) e
-after_then (behind y i q l r xe pe we ne ee te) w n v zs ys out ts x o k e = err_ok _ (v, ys) e
-after_then (taking y z q a xe r ye pe we ne ee te) w n v zs ys out ts x o k e = err_ok _ (v, ys) e
-after_then (leaving_it y z i q a xe r ye c ze pe we ne ee te) w n v zs ys out ts x o k e = err_ok _ (v, ys) e
-after_then (valuing y m i q a xe me ie he pe we ne te) w n v zs ys out ts x o k e = err_ok _ (v, ys) e
-after_then (binding y m i z q a xe me ie r ye ge pe we ne ee te) w n v zs ys out ts x o k e = err_ok _ (v, ys) e
+after_then _ w n v zs ys out ts x o k e = err_ok _ (v, ys) e
 
 -- `else` behind a then branch
 after_else : {gs : List Frame} {ps g : List (List ℕ)} {es : List Entry} {front : List Lexeme} {d : ℕ} → Opened gs ps g es front d →
@@ -309,14 +276,7 @@ after_else (taking {fs} {ps} {g} {es} {es'} {ts = us} {us = cs} {ts'} {t} {d} {p
     let f : Waits (state (frame ElseMark p wh n ∷ fs) ps g Operand n) (out ++ zs) (ts ++ x ∷ []) =
     record { d = d; still = leaving_it y z x q a ye r ze o.derived k pe we o.counts all whole; idle = refl; counts = o.counts } in
     moves _ v _ ys out _ _ (waits f) refl e
-after_else nothing w n v zs ys out ts x o k e = err_ok _ (v, ys) e
-after_else (inside y q xe we ne te) w n v zs ys out ts x o k e = err_ok _ (v, ys) e
-after_else (before y i q xe pe we ne te) w n v zs ys out ts x o k e = err_ok _ (v, ys) e
-after_else (behind y i q l r xe pe we ne ee te) w n v zs ys out ts x o k e = err_ok _ (v, ys) e
-after_else (asking y q a xe pe we ne te) w n v zs ys out ts x o k e = err_ok _ (v, ys) e
-after_else (leaving_it y z i q a xe r ye c ze pe we ne ee te) w n v zs ys out ts x o k e = err_ok _ (v, ys) e
-after_else (valuing y m i q a xe me ie he pe we ne te) w n v zs ys out ts x o k e = err_ok _ (v, ys) e
-after_else (binding y m i z q a xe me ie r ye ge pe we ne ee te) w n v zs ys out ts x o k e = err_ok _ (v, ys) e
+after_else _ w n v zs ys out ts x o k e = err_ok _ (v, ys) e
 
 -- `in` behind the first expression of a let
 after_in : {gs : List Frame} {ps g : List (List ℕ)} {es : List Entry} {front : List Lexeme} {d : ℕ} → Opened gs ps g es front d →
@@ -335,14 +295,7 @@ after_in (valuing {fs} {ps} {ps'} {g} {es} {ts = us} {ts'} {d} {p} {w = wh} {n =
       counts = o.counts;
     } in
     moves _ v _ ys out _ _ (waits f) refl e
-after_in nothing w n v zs ys out ts x o k e = err_ok _ (v, ys) e
-after_in (inside y q xe we ne te) w n v zs ys out ts x o k e = err_ok _ (v, ys) e
-after_in (before y i q xe pe we ne te) w n v zs ys out ts x o k e = err_ok _ (v, ys) e
-after_in (behind y i q l r xe pe we ne ee te) w n v zs ys out ts x o k e = err_ok _ (v, ys) e
-after_in (asking y q a xe pe we ne te) w n v zs ys out ts x o k e = err_ok _ (v, ys) e
-after_in (taking y z q a xe r ye pe we ne ee te) w n v zs ys out ts x o k e = err_ok _ (v, ys) e
-after_in (leaving_it y z i q a xe r ye c ze pe we ne ee te) w n v zs ys out ts x o k e = err_ok _ (v, ys) e
-after_in (binding y m i z q a xe me ie r ye ge pe we ne ee te) w n v zs ys out ts x o k e = err_ok _ (v, ys) e
+after_in _ w n v zs ys out ts x o k e = err_ok _ (v, ys) e
 
 -- `)` behind what stands in parentheses
 after_close : {gs : List Frame} {ps g : List (List ℕ)} {es : List Entry} {front : List Lexeme} {d : ℕ} → Opened gs ps g es front d →
@@ -366,32 +319,21 @@ after_close (inside {fs} {ps} {g} {es} {ts = us} {ts'} {d} y q ye we ne te) w n 
       counts = o.counts;
     } in
     moves _ v _ ys out _ _ (got f) refl e
-after_close nothing w n v zs ys out ts x o k wd e = err_ok _ (v, ys) e
-after_close (before y i q xe pe we ne te) w n v zs ys out ts x o k wd e = err_ok _ (v, ys) e
-after_close (behind y i q l r xe pe we ne ee te) w n v zs ys out ts x o k wd e = err_ok _ (v, ys) e
-after_close (asking y q a xe pe we ne te) w n v zs ys out ts x o k wd e = err_ok _ (v, ys) e
-after_close (taking y z q a xe r ye pe we ne ee te) w n v zs ys out ts x o k wd e = err_ok _ (v, ys) e
-after_close (leaving_it y z i q a xe r ye c ze pe we ne ee te) w n v zs ys out ts x o k wd e = err_ok _ (v, ys) e
-after_close (valuing y m i q a xe me ie he pe we ne te) w n v zs ys out ts x o k wd e = err_ok _ (v, ys) e
-after_close (binding y m i z q a xe me ie r ye ge pe we ne ee te) w n v zs ys out ts x o k wd e = err_ok _ (v, ys) e
+after_close _ w n v zs ys out ts x o k wd e = err_ok _ (v, ys) e
 
 -- an operator that is not refused
 joins : (o : Operator) (p : ℕ) (u v : State) (es ys : List Entry) → joined o p u es ≡ Ok (v, ys) →
     (above u.frames ≡ level o → ⊥) × (◌≡◌ {A = Step} (Ok (opened (BinaryMark o) p (start u.frames) Operand u, es)) (Ok (v, ys)))
 joins o p u v es ys e =
-    by_cases (eqb (above u.frames) (level o)) _
-    (λ b. err_ok _ (v, ys) (sym (cond-true _ (Err (Unexpected p)) (Ok (opened (BinaryMark o) p (start u.frames) Operand u, es)) b) ∙ e))
-    (λ b.
-    (eqb-false (above u.frames) (level o) b, sym (cond-false _ (Err (Unexpected p)) (Ok (opened (BinaryMark o) p (start u.frames) Operand u, es)) b) ∙ e))
+    let f : Step = Ok (opened (BinaryMark o) p (start u.frames) Operand u, es) in
+    cond_both (eqb (above u.frames) (level o)) (Err (Unexpected p)) f (λ i. i ≡ Ok (v, ys) → (above u.frames ≡ level o → ⊥) × (f ≡ Ok (v, ys)))
+    (λ b i. err_ok _ _ i) (λ b i. (eqb-false _ _ b, i)) e
 
 after_binary : (s v : State) (out ys : List Entry) (ts : List Lexeme) (x : Lexeme) (o : Operator) → x.kind ≡ Binary o → Got s out ts →
     joined o x.place (ended (ends o) s) (endings (ends o) s) ≡ Ok (v, ys) → Reads v (out ++ ys) (ts ++ x ∷ [])
 after_binary s v out ys ts x o k g e =
     let same : ends o ≡ left_level o = ends_left o in
-    let lo = level_low o in
-    let hi = level_top o in
-    let up = left_low o in
-    let down = left_top o in
+    let l = levels o in
     let c = closing s out ts (ends o) (omega arith) g in
     let whole : ts ++ x ∷ [] ≡ c.front ++ (c.part ++ x ∷ []) =
     ap (λ y. y ++ x ∷ []) (sym (c.tokens ∙ g.tokens)) ∙ append_assoc c.front c.part (x ∷ []) in
@@ -419,37 +361,22 @@ after_got s v out ys ts x In k l g e = let c = closing s out ts 0 (omega arith) 
 after_got s v out ys ts x Close k l g e =
     let c = closing s out ts 0 (omega arith) g in after_close c.still _ _ v _ ys out ts x (outered s out ts g c) k g.done e
 after_got s v out ys ts x End k l g e = absurd (l refl)
-after_got s v out ys ts x (Number n) k l g e = err_ok _ (v, ys) e
-after_got s v out ys ts x (Truth b) k l g e = err_ok _ (v, ys) e
-after_got s v out ys ts x Name k l g e = err_ok _ (v, ys) e
-after_got s v out ys ts x (Prefix o) k l g e = err_ok _ (v, ys) e
-after_got s v out ys ts x Open k l g e = err_ok _ (v, ys) e
-after_got s v out ys ts x If k l g e = err_ok _ (v, ys) e
-after_got s v out ys ts x Let k l g e = err_ok _ (v, ys) e
-after_got s v out ys ts x TooLarge k l g e = err_ok _ (v, ys) e
-after_got s v out ys ts x Bad k l g e = err_ok _ (v, ys) e
+after_got s v out ys ts x _ k l g e = err_ok _ (v, ys) e
 
-duly_at : (s : State) (x : Lexeme) (d : Due) → s.due ≡ d → feed s x ≡ duly d s x.kind x.place x.text
-duly_at s x d e = ap (λ i. duly i s x.kind x.place x.text) e
+fed_at : (s : State) (x : Lexeme) (d : Due) (k : TokenKind) → s.due ≡ d → x.kind ≡ k → feed s x ≡ duly d s k x.place x.text
+fed_at s x d k e f = cc
 
 step : (s v : State) (out ys : List Entry) (ts : List Lexeme) (x : Lexeme) → Reads s out ts → (x.kind ≡ End → ⊥) → feed s x ≡ Ok (v, ys) → Reads v (out ++ ys) (ts ++ x ∷ [])
-step s v out ys ts x (waits r) l e = after_waits s v out ys ts x x.kind refl r (sym (duly_at s x Operand r.idle) ∙ e)
-step s v out ys ts x (lets r) l e = after_lets s v out ys ts x x.kind refl r (sym (duly_at s x BinderDue r.idle) ∙ e)
-step s v out ys ts x (names r) l e = after_names s v out ys ts x x.kind refl r (sym (duly_at s x Equals r.idle) ∙ e)
-step s v out ys ts x (got r) l e = after_got s v out ys ts x x.kind refl l r (sym (duly_at s x OperatorDue r.done) ∙ e)
+step s v out ys ts x (waits r) l e = after_waits s v out ys ts x x.kind refl r (sym (fed_at s x _ _ r.idle refl) ∙ e)
+step s v out ys ts x (lets r) l e = after_lets s v out ys ts x x.kind refl r (sym (fed_at s x _ _ r.idle refl) ∙ e)
+step s v out ys ts x (names r) l e = after_names s v out ys ts x x.kind refl r (sym (fed_at s x _ _ r.idle refl) ∙ e)
+step s v out ys ts x (got r) l e = after_got s v out ys ts x x.kind refl l r (sym (fed_at s x _ _ r.done refl) ∙ e)
 
 -- where no frame is open
 bottom : {gs : List Frame} {ps g : List (List ℕ)} {es : List Entry} {ts : List Lexeme} {d : ℕ} → Opened gs ps g es ts d → gs ≡ [] →
     (g ≡ []) × ((es ≡ []) × ((ts ≡ []) × (d ≡ 64)))
 bottom nothing e = (refl, (refl, (refl, refl)))
-bottom (inside y q xe we ne te) e = let z : ◌≡◌ {A = ℕ} 0 1 = cc in absurd (omega arith)
-bottom (before y i q xe pe we ne te) e = let z : ◌≡◌ {A = ℕ} 0 1 = cc in absurd (omega arith)
-bottom (behind y i q l r xe pe we ne ee te) e = let z : ◌≡◌ {A = ℕ} 0 1 = cc in absurd (omega arith)
-bottom (asking y q a xe pe we ne te) e = let z : ◌≡◌ {A = ℕ} 0 1 = cc in absurd (omega arith)
-bottom (taking y w q a xe r ye pe we ne ee te) e = let z : ◌≡◌ {A = ℕ} 0 1 = cc in absurd (omega arith)
-bottom (leaving_it y w i q a xe r ye c ze pe we ne ee te) e = let z : ◌≡◌ {A = ℕ} 0 1 = cc in absurd (omega arith)
-bottom (valuing y m i q a xe me ie he pe we ne te) e = let z : ◌≡◌ {A = ℕ} 0 1 = cc in absurd (omega arith)
-bottom (binding y m i w q a xe me ie r ye ge pe we ne ee te) e = let z : ◌≡◌ {A = ℕ} 0 1 = cc in absurd (omega arith)
+bottom _ e = cc
 
 the_end : (s : State) (p : ℕ) (out es : List Entry) (ts : List Lexeme) (g : Got s out ts) →
     Closes 0 s.frames s.pending s.scope g.es g.front g.part g.tree → (gs : List Frame) → gs ≡ left 0 s.frames →
@@ -468,36 +395,22 @@ the_end s p out es ts g c [] ge e =
 
 last : (s : State) (out es : List Entry) (ts : List Lexeme) (x : Lexeme) → Reads s out ts → x.kind ≡ End → feeds s (x ∷ []) ≡ Ok es →
     (t : Tree) × Rule ts t × (out ++ es ≡ flatten t)
-last s out es ts x (waits r) k e =
-    err_ok _ es (sym (ap (λ i. followed i (λ u. Ok [])) (duly_at s x Operand r.idle ∙ ap (λ i. duly Operand s i x.place x.text) k)) ∙ e)
-last s out es ts x (lets r) k e =
-    err_ok _ es (sym (ap (λ i. followed i (λ u. Ok [])) (duly_at s x BinderDue r.idle ∙ ap (λ i. duly BinderDue s i x.place x.text) k)) ∙ e)
-last s out es ts x (names r) k e =
-    err_ok _ es (sym (ap (λ i. followed i (λ u. Ok [])) (duly_at s x Equals r.idle ∙ ap (λ i. duly Equals s i x.place x.text) k)) ∙ e)
+last s out es ts x (waits r) k e = let f = fed _ _ es e in err_ok _ f.next (sym (fed_at s x _ _ r.idle k) ∙ f.went)
+last s out es ts x (lets r) k e = let f = fed _ _ es e in err_ok _ f.next (sym (fed_at s x _ _ r.idle k) ∙ f.went)
+last s out es ts x (names r) k e = let f = fed _ _ es e in err_ok _ f.next (sym (fed_at s x _ _ r.idle k) ∙ f.went)
 last s out es ts x (got r) k e =
     the_end s x.place out es ts r (closing s out ts 0 (omega arith) r) (left 0 s.frames) refl
-    (sym (ap (λ i. followed i (λ u. Ok [])) (duly_at s x OperatorDue r.done ∙ ap (λ i. duly OperatorDue s i x.place x.text) k)) ∙ e)
+    (sym (ap (λ i. followed i (λ u. Ok [])) (fed_at s x _ _ r.done k)) ∙ e)
 
 sound_from : (ts : List Lexeme) (s : State) (out es : List Entry) (was : List Lexeme) (e : Lexeme) → Endless ts → e.kind ≡ End → Reads s out was →
     feeds s (ts ++ e ∷ []) ≡ Ok es → (t : Tree) × Rule (was ++ ts) t × (out ++ es ≡ flatten t)
 sound_from [] s out es was e l k r h =
     let z = last s out es was e r k h in
     (z.0, subst (λ y. Rule y z.0) (sym (append-nil was)) z.1, z.2)
-sound_from (x ∷ ts) s out es was e l k r h = go (λ v o fs q f. sound_from ts v o fs (was ++ x ∷ []) e l.1 k q f) (feed s x) refl h
-  where
-    more : (v : State) (ys : List Entry) (y : Result (List Entry) Refusal) → feeds v (ts ++ e ∷ []) ≡ y → prefixed ys y ≡ Ok es →
-        ((fs : List Entry) → feeds v (ts ++ e ∷ []) ≡ Ok fs → (t : Tree) × Rule ((was ++ x ∷ []) ++ ts) t × ((out ++ ys) ++ fs ≡ flatten t)) →
-        (t : Tree) × Rule (was ++ x ∷ ts) t × (out ++ es ≡ flatten t)
-    more v ys (Err d) f g rest = err_ok d es g
-    more v ys (Ok fs) f g rest =
-        let z = rest fs f in
-        let all : ys ++ fs ≡ es = cc in
-        (z.0, subst (λ y. Rule y z.0) (append_assoc was (x ∷ []) ts) z.1, ap (λ y. out ++ y) (sym all) ∙ sym (append_assoc out ys fs) ∙ z.2)
-
-    go : ((v : State) (o fs : List Entry) → Reads v o (was ++ x ∷ []) → feeds v (ts ++ e ∷ []) ≡ Ok fs → (t : Tree) × Rule ((was ++ x ∷ []) ++ ts) t × (o ++ fs ≡ flatten t)) →
-        (y : Step) → feed s x ≡ y → followed y (λ v. feeds v (ts ++ e ∷ [])) ≡ Ok es → (t : Tree) × Rule (was ++ x ∷ ts) t × (out ++ es ≡ flatten t)
-    go rest (Ok (v, ys)) f g = more v ys (feeds v (ts ++ e ∷ [])) refl g (λ fs q. rest v (out ++ ys) fs (step s v out ys was x r l.0 f) q)
-    go rest (Err d) f g = err_ok d es g
+sound_from (x ∷ ts) s out es was e l k r h =
+    let f = fed (feed s x) (λ u. feeds u (ts ++ e ∷ [])) es h in
+    let z = sound_from ts f.next.0 (out ++ f.next.1) f.rest (was ++ x ∷ []) e l.1 k (step s f.next.0 out f.next.1 was x r l.0 f.went) f.then in
+    (z.0, subst (λ y. Rule y z.0) (append_assoc was (x ∷ []) ts) z.1, ap (λ y. out ++ y) (sym f.all) ∙ sym (append_assoc out f.next.1 f.rest) ∙ z.2)
 
 pub sound : Sound
 sound ts e es l k h = sound_from ts fresh [] es [] e l k (waits (record { d = 64; still = nothing; idle = refl; counts = refl })) h
