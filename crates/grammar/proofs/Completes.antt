@@ -27,12 +27,10 @@ use Rattle.grammar.proofs.Frames.{levels, ends_left, loose, none_ends, left_left
 use Rattle.grammar.proofs.Trees.{length-flatten}
 
 prefixed_none : (r : Result (List Entry) Refusal) → prefixed_by [] r ≡ r
-prefixed_none (Ok es) = refl
-prefixed_none (Err e) = refl
+prefixed_none r = grind arith
 
 prefixed_twice : (xs ys : List Entry) (r : Result (List Entry) Refusal) → prefixed_by xs (prefixed_by ys r) ≡ prefixed_by (xs ++ ys) r
-prefixed_twice xs ys (Ok es) = ap Ok (sym (append_assoc xs ys es))
-prefixed_twice xs ys (Err e) = refl
+prefixed_twice xs ys r = grind (arith, append_assoc)
 
 -- the tokens ts, read where an operand is due, add the tree t: at the level k all ends as if t stood there
 record Reached (k : ℕ) (fs : List Frame) (ps g : List (List ℕ)) (n : ℕ) (ts : List Lexeme) (t : Tree) : Type 0 where
@@ -56,9 +54,7 @@ all_closed : (j k n : ℕ) (fs : List Frame) (es : List Entry) → j ≤ k →
     es ++ closed j fs (n + length es) ≡ (es ++ closed k fs (n + length es)) ++ closed j (left k fs) (n + length (es ++ closed k fs (n + length es)))
 all_closed j k n fs es h =
     let m : n + length es + length (closed k fs (n + length es)) ≡ n + length (es ++ closed k fs (n + length es)) = simp length-append (omega arith) in
-    ap (λ x. es ++ x) (closed_closed j k fs (n + length es) h)
-    ∙ ap (λ x. es ++ (closed k fs (n + length es) ++ closed j (left k fs) x)) m
-    ∙ sym (append_assoc es (closed k fs (n + length es)) _)
+    rw (closed_closed j k fs (n + length es) h, m, append_assoc)
 
 reach_tighter : (j k n : ℕ) (fs : List Frame) (ps g : List (List ℕ)) (ts : List Lexeme) (t : Tree) → j ≤ k → Reached k fs ps g n ts t → Reached j fs ps g n ts t
 reach_tighter j k n fs ps g ts t le r =
@@ -84,10 +80,10 @@ atom k n fs ps g ts t r =
       frames = fs;
       scope = g;
       out = flatten t;
-      runs = λ rest. r rest ∙ ap (λ i. prefixed_by (flatten t) (feeds (state fs ps g OperatorDue i) rest)) m;
+      runs = λ rest. rw (← m) (r rest);
       stays = refl;
       keeps = refl;
-      adds = ap (λ i. flatten t ++ closed k fs i) (sym m);
+      adds = rw m;
     }
 
 -- the first token
@@ -120,9 +116,7 @@ goes_on j n fs ps g ts rest t x k u step a lj sj cj ke ge oe =
     let all : a.out ++ es ≡ flatten t = a.adds ∙ ap (λ y. flatten t ++ y) cj ∙ append-nil (flatten t) in
     let long : n + length a.out + length es ≡ n + size t = omega (arith, length-append a.out es, ap length all, length-flatten t) in
     let settled : ended j s ≡ state fs ps g OperatorDue (n + size t) =
-    ap (λ y. state y ps (scoped j a.frames a.scope) OperatorDue (n + length a.out + length es)) (a.stays ∙ lj)
-    ∙ ap (λ y. state fs ps y OperatorDue (n + length a.out + length es)) (a.keeps ∙ sj)
-    ∙ ap (λ y. state fs ps g OperatorDue y) long in
+    cc (a.stays, lj, a.keeps, sj, long) in
     a.runs (x ∷ rest)
     ∙ ap (prefixed_by a.out)
     (begins_with s x k rest ke ∙ ap (λ i. followed i (λ v. feeds v rest)) (ge s ∙ ap (λ i. step i es) settled ∙ oe es))
@@ -144,19 +138,12 @@ wrap k n m f fs ps g h ts us t v xs e c b ge me je fe re =
       scope = c.scope;
       out = xs ++ c.out;
       runs = λ rest.
-          re rest
-          ∙ ap (prefixed_by xs) (c.runs rest)
-          ∙ prefixed_twice xs c.out _
-          ∙ ap (λ i. prefixed_by (xs ++ c.out) (feeds (state c.frames ps c.scope OperatorDue i) rest)) more;
+          rw (← more, re rest, c.runs rest, prefixed_twice);
       stays = c.stays ∙ cond-true _ _ _ b;
       keeps = c.keeps ∙ cond-true _ (scoped k fs (leaving f.mark h)) h b ∙ ap (scoped k fs) ge;
       adds =
-          ap (λ i. (xs ++ c.out) ++ closed k c.frames i) (sym more)
-          ∙ append_assoc xs c.out (closed k c.frames (m + length c.out))
-          ∙ ap (λ y. xs ++ y) (c.adds ∙ ap (λ y. flatten v ++ y) (cond-true _ (joint f (m + size v) ∷ closed k fs (m + size v + 1)) [] b))
-          ∙ ap (λ y. xs ++ (flatten v ++ y ∷ closed k fs (m + size v + 1))) je
-          ∙ ap (λ i. xs ++ (flatten v ++ e ∷ closed k fs i)) last
-          ∙ sym (ap (λ y. y ++ closed k fs (n + size t)) fe ∙ simp append_assoc);
+          rw (← more, append_assoc, c.adds, b, je, last, fe)
+          (sym (simp append_assoc));
     }
 
 reach_parens : (d n : ℕ) (fs : List Frame) (ps g : List (List ℕ)) (x y : Lexeme) (ts : List Lexeme) (t : Tree) → deep fs + suc d ≤ 64 → x.kind ≡ Open → y.kind ≡ Close →
