@@ -24,7 +24,7 @@ use Rattle.language.specs.declared.token.TokenKind.TheVariants.{Number, Truth, N
 use Rattle.grammar.specs.Grammar.{level, left_level, Derives, constant, truth_value, named, parens, Rule}
 use Rattle.grammar.specs.Laws.{Endless, Sound}
 use Rattle.grammar.proofs.Frames.{levels, ends_left, above_left}
-use Rattle.grammar.proofs.Opened.{Opened, nothing, inside, before, behind, asking, taking, leaving_it, valuing, binding, starts, depths, floor_operand, Closes, closes}
+use Rattle.grammar.proofs.Opened.{Piece, Opened, nothing, more, inside, before, behind, asking, taking, leaving_it, valuing, binding, starts, depths, floor_operand, Closes, closes}
 
 -- an operand is due
 record Waits (s : State) (out : List Entry) (ts : List Lexeme) : Type 0 where
@@ -155,6 +155,11 @@ nests_whole s v out ys ts x m w r f e =
     cond_both (eqb (above s.frames) 0) (enter m x.place w s) (Err (Unexpected x.place)) (λ i. i ≡ Ok (v, ys) → Reads v (out ++ ys) (ts ++ x ∷ []))
     (λ b i. nests s v out ys ts x m w r (λ d q. f d (eqb-true _ _ b) q) i) (λ b i. err_ok _ _ i) e
 
+opens : (s : State) (out : List Entry) (ts : List Lexeme) (x : Lexeme) (m : Mark) (d : ℕ) → Waits s out ts → Opened s.frames s.pending s.scope out ts (suc d) →
+    Piece s.frames m x.place s.pending s.pending s.scope s.scope (suc d) d [] (x ∷ []) → Reads (opened m x.place s.count Operand s) out (ts ++ x ∷ [])
+opens s out ts x m d r q c =
+    waits (record { d = d; still = more q c r.counts r.counts (sym (append-nil out)) refl; idle = refl; counts = r.counts })
+
 after_waits : (s v : State) (out ys : List Entry) (ts : List Lexeme) (x : Lexeme) (k : TokenKind) → x.kind ≡ k → Waits s out ts →
     begun (opening_of k) s k x.place x.text ≡ Ok (v, ys) → Reads v (out ++ ys) (ts ++ x ∷ [])
 after_waits s v out ys ts x (Number n) k r e = leafs s v out ys ts x (number n x.place) (entry NumberKind n 1 x.place) r refl (λ d. constant x k) e
@@ -162,14 +167,11 @@ after_waits s v out ys ts x (Truth b) k r e =
     leafs s v out ys ts x (truth b x.place) (entry TruthKind (plus (cond b 1 0)) 1 x.place) r refl (λ d. truth_value x k) e
 after_waits s v out ys ts x Name k r e = names_in s v out ys ts x (position x.text s.scope) r k refl e
 after_waits s v out ys ts x (Prefix o) k r e =
-    nests s v out ys ts x (PrefixMark o) Operand r
-    (λ d q. waits (record { d = d; still = before x o q k refl r.counts r.counts refl; idle = refl; counts = r.counts })) e
+    nests s v out ys ts x (PrefixMark o) Operand r (λ d q. opens s out ts x (PrefixMark o) d r q (before x o k refl)) e
 after_waits s v out ys ts x Open k r e =
-    nests s v out ys ts x Paren Operand r
-    (λ d q. waits (record { d = d; still = inside x q k r.counts r.counts refl; idle = refl; counts = r.counts })) e
+    nests s v out ys ts x Paren Operand r (λ d q. opens s out ts x Paren d r q (inside x k)) e
 after_waits s v out ys ts x If k r e =
-    nests_whole s v out ys ts x Condition Operand r
-    (λ d a q. waits (record { d = d; still = asking x q a k refl r.counts r.counts refl; idle = refl; counts = r.counts })) e
+    nests_whole s v out ys ts x Condition Operand r (λ d a q. opens s out ts x Condition d r q (asking x a k refl)) e
 after_waits s v out ys ts x Let k r e =
     nests_whole s v out ys ts x Binder BinderDue r
     (λ d a q.
@@ -208,7 +210,7 @@ equates s v out ys ts x k r e =
     let whole : ts ++ x ∷ [] ≡ r.front ++ r.word ∷ r.binder ∷ x ∷ [] =
     ap (λ y. y ++ x ∷ []) (sym r.tokens) ∙ append_assoc r.front (r.word ∷ r.binder ∷ []) (x ∷ []) in
     let held : Opened (frame Value r.word.place s.count s.count ∷ r.fs) s.pending s.scope out (ts ++ x ∷ []) r.d =
-    valuing r.word r.binder x r.still r.outside r.opens r.names k r.pending refl r.counts r.counts whole in
+    more r.still (valuing r.word r.binder x r.outside r.opens r.names k r.pending refl) r.counts r.counts (sym (append-nil out)) whole in
     let g : Waits (state s.frames s.pending s.scope Operand s.count) out (ts ++ x ∷ []) =
     record {
       d = r.d;
@@ -257,11 +259,12 @@ outered s out ts g c =
 after_then : {gs : List Frame} {ps g : List (List ℕ)} {es : List Entry} {front : List Lexeme} {d : ℕ} → Opened gs ps g es front d →
     (w : Due) (n : ℕ) (v : State) (zs ys out : List Entry) (ts : List Lexeme) (x : Lexeme) → Outer g (out ++ zs) ts d es front n → x.kind ≡ Then →
     turn_top then_of x.place gs (state gs ps g w n) zs ≡ Ok (v, ys) → Reads v (out ++ ys) (ts ++ x ∷ [])
-after_then (asking {fs} {ps} {g} {es} {ts = us} {ts'} {d} {p} {w = wh} {n = fi} y q a ye pe we ne te) w n v zs ys out ts x o k e =
+after_then (more {fs} {ps} {g} {es} {ts = us} {d} {p} {w = wh} q (asking y a ye pe) we ne ee te) w n v zs ys out ts x o k e =
     let whole : ts ++ x ∷ [] ≡ us ++ y ∷ (o.part ++ x ∷ []) =
     ap (λ i. i ++ x ∷ []) (sym o.tokens ∙ ap (λ i. i ++ o.part) te) ∙ simp append_assoc in
+    let all : out ++ zs ≡ es ++ flatten o.tree = o.entries ∙ rw (ee, append-nil) in
     let r : Waits (state (frame ThenMark p wh n ∷ fs) ps g Operand n) (out ++ zs) (ts ++ x ∷ []) =
-    record { d = d; still = taking y x q a ye o.derived k pe we o.counts o.entries whole; idle = refl; counts = o.counts } in
+    record { d = d; still = more q (taking y x a ye o.derived k pe) we o.counts all whole; idle = refl; counts = o.counts } in
     moves _ v _ ys out _ _ (waits r) refl e
 after_then _ w n v zs ys out ts x o k e = err_ok _ (v, ys) e
 
@@ -269,12 +272,12 @@ after_then _ w n v zs ys out ts x o k e = err_ok _ (v, ys) e
 after_else : {gs : List Frame} {ps g : List (List ℕ)} {es : List Entry} {front : List Lexeme} {d : ℕ} → Opened gs ps g es front d →
     (w : Due) (n : ℕ) (v : State) (zs ys out : List Entry) (ts : List Lexeme) (x : Lexeme) → Outer g (out ++ zs) ts d es front n → x.kind ≡ Else →
     turn_top else_of x.place gs (state gs ps g w n) zs ≡ Ok (v, ys) → Reads v (out ++ ys) (ts ++ x ∷ [])
-after_else (taking {fs} {ps} {g} {es} {es'} {ts = us} {us = cs} {ts'} {t} {d} {p} {w = wh} {n = fi} y z q a ye r ze pe we ne ee te) w n v zs ys out ts x o k e =
+after_else (more {fs} {ps} {g} {es} {ts = us} {d} {p} {w = wh} q (taking {us = cs} {t} y z a ye r ze pe) we ne ee te) w n v zs ys out ts x o k e =
     let whole : ts ++ x ∷ [] ≡ us ++ y ∷ (cs ++ z ∷ (o.part ++ x ∷ [])) =
     ap (λ i. i ++ x ∷ []) (sym o.tokens ∙ ap (λ i. i ++ o.part) te) ∙ simp append_assoc in
     let all : out ++ zs ≡ es ++ (flatten t ++ flatten o.tree) = o.entries ∙ ap (λ i. i ++ flatten o.tree) ee ∙ append_assoc es (flatten t) (flatten o.tree) in
     let f : Waits (state (frame ElseMark p wh n ∷ fs) ps g Operand n) (out ++ zs) (ts ++ x ∷ []) =
-    record { d = d; still = leaving_it y z x q a ye r ze o.derived k pe we o.counts all whole; idle = refl; counts = o.counts } in
+    record { d = d; still = more q (leaving_it y z x a ye r ze o.derived k pe) we o.counts all whole; idle = refl; counts = o.counts } in
     moves _ v _ ys out _ _ (waits f) refl e
 after_else _ w n v zs ys out ts x o k e = err_ok _ (v, ys) e
 
@@ -282,11 +285,11 @@ after_else _ w n v zs ys out ts x o k e = err_ok _ (v, ys) e
 after_in : {gs : List Frame} {ps g : List (List ℕ)} {es : List Entry} {front : List Lexeme} {d : ℕ} → Opened gs ps g es front d →
     (w : Due) (n : ℕ) (v : State) (zs ys out : List Entry) (ts : List Lexeme) (x : Lexeme) → Outer g (out ++ zs) ts d es front n → x.kind ≡ In →
     brought (turn_top in_of x.place gs (state gs ps g w n) zs) ≡ Ok (v, ys) → Reads v (out ++ ys) (ts ++ x ∷ [])
-after_in (valuing {fs} {ps} {ps'} {g} {es} {ts = us} {ts'} {d} {p} {w = wh} {n = fi} y m i q a ye me ie he pe we ne te) w n v zs ys out ts x o k e =
+after_in (more {fs} {ps} {ps'} {g} {es} {ts = us} {d} {p} {w = wh} q (valuing y m i a ye me ie he pe) we ne ee te) w n v zs ys out ts x o k e =
     let whole : ts ++ x ∷ [] ≡ us ++ y ∷ m ∷ i ∷ (o.part ++ x ∷ []) =
     ap (λ j. j ++ x ∷ []) (sym o.tokens ∙ ap (λ j. j ++ o.part) te) ∙ simp append_assoc in
     let held : Opened (frame Body p wh n ∷ fs) ps (take 1 ps' ++ g) (out ++ zs) (ts ++ x ∷ []) d =
-    binding y m i x q a ye me ie o.derived k (ap (λ j. take 1 j ++ g) he) pe we o.counts o.entries whole in
+    more q (binding y m i x a ye me ie o.derived k (ap (λ j. take 1 j ++ g) he) pe) we o.counts (o.entries ∙ rw (ee, append-nil)) whole in
     let f : Waits (state (frame Body p wh n ∷ fs) (drop 1 ps') (take 1 ps' ++ g) Operand n) (out ++ zs) (ts ++ x ∷ []) =
     record {
       d = d;
@@ -301,7 +304,7 @@ after_in _ w n v zs ys out ts x o k e = err_ok _ (v, ys) e
 after_close : {gs : List Frame} {ps g : List (List ℕ)} {es : List Entry} {front : List Lexeme} {d : ℕ} → Opened gs ps g es front d →
     (w : Due) (n : ℕ) (v : State) (zs ys out : List Entry) (ts : List Lexeme) (x : Lexeme) → Outer g (out ++ zs) ts d es front n → x.kind ≡ Close → w ≡ OperatorDue →
     shut_top x.place gs (state gs ps g w n) zs ≡ Ok (v, ys) → Reads v (out ++ ys) (ts ++ x ∷ [])
-after_close (inside {fs} {ps} {g} {es} {ts = us} {ts'} {d} y q ye we ne te) w n v zs ys out ts x o k wd e =
+after_close (more {fs} {ps} {g} {es} {ts = us} {d} q (inside y ye) we ne ee te) w n v zs ys out ts x o k wd e =
     let whole : us ++ y ∷ (o.part ++ x ∷ []) ≡ ts ++ x ∷ [] =
     sym (ap (λ i. i ++ x ∷ []) (sym o.tokens ∙ ap (λ i. i ++ o.part) te) ∙ simp append_assoc) in
     let f : Got (state fs ps g w n) (out ++ zs) (ts ++ x ∷ []) =
@@ -314,7 +317,7 @@ after_close (inside {fs} {ps} {g} {es} {ts = us} {ts'} {d} y q ye we ne te) w n 
       still = q;
       derived = parens y x ye o.derived k;
       tokens = whole;
-      entries = o.entries;
+      entries = o.entries ∙ rw (ee, append-nil);
       done = wd;
       counts = o.counts;
     } in
@@ -345,7 +348,7 @@ after_binary s v out ys ts x o k g e =
     record {
       d = c.d;
       still =
-          behind x o c.still below (subst (λ i. Derives i (scoped (ends o) s.frames s.scope) c.d c.part c.tree) same c.derived) k refl (starts c.still)
+          more c.still (behind x o below (subst (λ i. Derives i (scoped (ends o) s.frames s.scope) c.d c.part c.tree) same c.derived) k refl) (starts c.still)
           (ended_counts s out ts (ends o) g) (closed_out s out ts (ends o) g c) whole;
       idle = refl;
       counts = ended_counts s out ts (ends o) g;
