@@ -344,26 +344,14 @@ step s out ts x (lets r) l = at_due s x BinderDue out _ r.idle (after_lets s out
 step s out ts x (names r) l = at_due s x Equals out _ r.idle (after_names s out ts x x.kind refl r)
 step s out ts x (got r) l = at_due s x OperatorDue out _ r.done (after_got s out ts x x.kind refl l r)
 
--- where no frame is open
-bottom : {gs : List Frame} {ps g : List (List ℕ)} {es : List Entry} {ts : List Lexeme} {d : ℕ} → Opened gs ps g es ts d → gs ≡ [] →
-    (g ≡ []) × ((es ≡ []) × ((ts ≡ []) × (d ≡ 64)))
-bottom nothing e = (refl, (refl, (refl, refl)))
-bottom _ e = cc
-
-the_end : (s : State) (p : ℕ) (out es : List Entry) (ts : List Lexeme) (g : Got s out ts) →
-    Closes 0 s.frames s.pending s.scope g.es g.front g.part g.tree → (gs : List Frame) → gs ≡ left 0 s.frames →
-    followed (finish_top p gs (ended 0 s) (endings 0 s)) (λ u. Ok []) ≡ Ok es → (t : Tree) × Rule ts t × (out ++ es ≡ flatten t)
-the_end s p out es ts g c (f ∷ fs) ge e = err_ok _ es e
-the_end s p out es ts g c [] ge e =
-    let b = bottom c.still (sym ge) in
-    let whole : c.part ≡ ts = ap (λ y. y ++ c.part) (sym b.1.1.0) ∙ c.tokens ∙ g.tokens in
-    let one = subst (λ y. Derives 0 y c.d c.part c.tree) b.0 c.derived in
-    let two = subst (λ y. Derives 0 [] y c.part c.tree) b.1.1.1 one in
-    let all : endings 0 s ++ [] ≡ es = cc in (
-      c.tree,
-      subst (λ y. Derives 0 [] 64 y c.tree) whole two,
-      ap (λ y. out ++ y) (sym all ∙ append-nil (endings 0 s)) ∙ closed_out s out ts 0 g c ∙ ap (λ y. y ++ flatten c.tree) b.1.0,
-    )
+-- the end of the text, where no frame is open
+the_end : {gs : List Frame} {ps g : List (List ℕ)} {es : List Entry} {front : List Lexeme} {d : ℕ} → Opened gs ps g es front d →
+    (p n : ℕ) (u : State) (zs out fs : List Entry) (ts : List Lexeme) → Outer g (out ++ zs) ts d es front n →
+    followed (finish_top p gs u zs) (λ u. Ok []) ≡ Ok fs → (t : Tree) × Rule ts t × (out ++ fs ≡ flatten t)
+the_end nothing p n u zs out fs ts o e =
+    let all : zs ++ [] ≡ fs = cc in
+    (o.tree, subst (λ y. Rule y o.tree) o.tokens o.derived, ap (λ y. out ++ y) (sym all ∙ append-nil zs) ∙ o.entries)
+the_end _ p n u zs out fs ts o e = err_ok _ fs e
 
 last : (s : State) (out es : List Entry) (ts : List Lexeme) (x : Lexeme) → Reads s out ts → x.kind ≡ End → feeds s (x ∷ []) ≡ Ok es →
     (t : Tree) × Rule ts t × (out ++ es ≡ flatten t)
@@ -371,8 +359,8 @@ last s out es ts x (waits r) k e = let f = fed _ _ es e in err_ok _ f.next (sym 
 last s out es ts x (lets r) k e = let f = fed _ _ es e in err_ok _ f.next (sym (fed_at s x _ _ r.idle k) ∙ f.went)
 last s out es ts x (names r) k e = let f = fed _ _ es e in err_ok _ f.next (sym (fed_at s x _ _ r.idle k) ∙ f.went)
 last s out es ts x (got r) k e =
-    the_end s x.place out es ts r (closing s out ts 0 (omega arith) r) (left 0 s.frames) refl
-    (sym (ap (λ i. followed i (λ u. Ok [])) (fed_at s x _ _ r.done k)) ∙ e)
+    let c = closing s out ts 0 (omega arith) r in
+    the_end c.still x.place _ (ended 0 s) (endings 0 s) out es ts (outered s out ts r c) (sym (ap (λ i. followed i (λ u. Ok [])) (fed_at s x _ _ r.done k)) ∙ e)
 
 sound_from : (ts : List Lexeme) (s : State) (out es : List Entry) (was : List Lexeme) (e : Lexeme) → Endless ts → e.kind ≡ End → Reads s out was →
     feeds s (ts ++ e ∷ []) ≡ Ok es → (t : Tree) × Rule (was ++ ts) t × (out ++ es ≡ flatten t)
