@@ -1,12 +1,11 @@
 -- What the grammar derives is read.
-use Rattle.std.proofs.Common.{◌≡◌, ℕ, suc, ◌+◌, ◌-◌, ◌<◌, ◌≤◌, true, List, [], ◌∷◌, ◌++◌, length, Ok, Err, Result, sym, refl, ap, ◌∙◌, append_assoc, arith, length-append}
+use Rattle.std.proofs.Common.{◌≡◌, ℕ, suc, ◌+◌, ◌-◌, ◌<◌, ◌≤◌, true, List, [], ◌∷◌, ◌++◌, length, Ok, Result, sym, refl, ap, ◌∙◌, append_assoc, arith, length-append}
 use Rattle.std.proofs.lemmas.List.{append-nil}
-use Rattle.std.proofs.lemmas.Bool.{cond-true, cond-false, le-leb, lt-ltb, eq-eqb, ne_eqb}
+use Rattle.std.proofs.lemmas.Bool.{cond-true, le-leb, lt-ltb, eq-eqb, ne_eqb}
 use Rattle.refusal.specs.declared.Refusal.{Refusal}
-use Rattle.refusal.specs.declared.Refusal.TheVariants.{Unexpected}
 use Rattle.bytecode.specs.Words.{plus}
 use Rattle.language.specs.Frames.{frame, start, above, left, closed, scoped, leaving, deep, binds, joint}
-use Rattle.language.specs.Fold.{State, state, Step, named as named_to, opened, enter, enter_whole, ended, endings, joined, then_of, else_of, in_of, turned, brought, shut, finished, sequel_of, gone_on, duly, feeds, followed, prefixed as prefixed_by}
+use Rattle.language.specs.Fold.{State, state, Step, named as named_to, enter, enter_whole, ended, endings, joined, then_of, else_of, in_of, turned, brought, shut, finished, sequel_of, gone_on, duly, feeds, followed, prefixed as prefixed_by}
 use Rattle.language.specs.Tokens.{Lexeme}
 use Rattle.language.specs.Tree.{Tree, prefix, binary, choose, bind, size, entry, flatten}
 use Rattle.language.specs.declared.entry.Entry.{Entry}
@@ -98,11 +97,11 @@ first_token {u} {k} s x rest e f = begins_with s x k rest e ∙ ap (λ i. follow
 
 entered : (m : Mark) (p d : ℕ) (w : Due) (fs : List Frame) (ps g : List (List ℕ)) (n : ℕ) → deep fs + suc d ≤ 64 →
     enter m p w (state fs ps g Operand n) ≡ Ok (state (frame m p n n ∷ fs) ps g w n, [])
-entered m p d w fs ps g n h = let l : deep fs < 64 = omega arith in cond-true _ _ _ (lt-ltb (deep fs) 64 l)
+entered m p d w fs ps g n h = let l : deep fs < 64 = omega arith in rw (lt-ltb (deep fs) 64 l)
 
 entered_whole : (m : Mark) (p d : ℕ) (w : Due) (fs : List Frame) (ps g : List (List ℕ)) (n : ℕ) → Fits 0 (suc d) fs n →
     enter_whole m p w (state fs ps g Operand n) ≡ Ok (state (frame m p n n ∷ fs) ps g w n, [])
-entered_whole m p d w fs ps g n h = cond-true _ _ _ (eq-eqb (above fs) 0 (h.outside refl)) ∙ entered m p d w fs ps g n h.deeper
+entered_whole m p d w fs ps g n h = rw (eq-eqb (above fs) 0 (h.outside refl)) (entered m p d w fs ps g n h.deeper)
 
 -- the token behind an operand ends what is open at the level j, and then goes on
 goes_on : {j n : ℕ} {fs : List Frame} {ps g : List (List ℕ)} {ts : List Lexeme} {t : Tree} {k : TokenKind} (rest : List Lexeme) (x : Lexeme) (u : State) (step : State → List Entry → Step) →
@@ -151,9 +150,9 @@ reach_parens : (d : ℕ) (x y : Lexeme) {n : ℕ} {fs : List Frame} {ps g : List
 reach_parens d x y {n} {fs} {ps} {g} {ts} {t} h xe ye a =
     atom
     (λ rest.
-    ap (λ i. feeds (state fs ps g Operand n) (x ∷ i)) (append_assoc ts (y ∷ []) rest)
-    ∙ first_token (state fs ps g Operand n) x (ts ++ y ∷ rest) xe (entered Paren x.place d Operand fs ps g n h)
-    ∙ goes_on rest y (state fs ps g OperatorDue (n + size t)) (shut y.place) a refl refl refl ye (λ s. refl) (λ es. refl))
+    rw (append_assoc ts (y ∷ []) rest)
+    (first_token (state fs ps g Operand n) x (ts ++ y ∷ rest) xe (entered Paren x.place d Operand fs ps g n h)
+    ∙ goes_on rest y (state fs ps g OperatorDue (n + size t)) (shut y.place) a refl refl refl ye (λ s. refl) (λ es. refl)))
 
 reach_prefix : (d : ℕ) (x : Lexeme) {n : ℕ} {fs : List Frame} {ps g : List (List ℕ)} {o : PrefixOperator} {ts : List Lexeme} {t : Tree} → deep fs + suc d ≤ 64 → x.kind ≡ Prefix o →
     Reached 6 (frame (PrefixMark o) x.place n n ∷ fs) ps g n ts t → Reached 6 fs ps g n (x ∷ ts) (prefix o x.place t)
@@ -161,7 +160,7 @@ reach_prefix d x {n} {fs} {ps} {g} {o} {ts} {t} h xe a =
     let long : n + size t + 1 - n ≡ size t + 1 = omega arith in
     let none : n ≡ n + 0 = omega arith in
     wrap [] (entry (PrefixKind o) (plus 0) (size t + 1) x.place) a
-    refl refl none (ap (λ i. entry (PrefixKind o) (plus 0) i x.place) long) refl
+    refl refl none (rw long) refl
     (λ rest.
     first_token (state fs ps g Operand n) x (ts ++ rest) xe (entered (PrefixMark o) x.place d Operand fs ps g n h)
     ∙ sym (prefixed_none _))
@@ -185,15 +184,13 @@ reach_join x {n} {fs} {ps} {g} {o} {ts} {us} {t} {u} h xe a b =
     let me : m ≡ n + length (flatten t) = omega (arith, length-flatten t) in
     wrap (flatten t) (entry (BinaryKind o) (plus 0) (size t + size u + 1) x.place)
     (reach_tighter le b) (le-leb (level o) (level o) own) refl me
-    (ap (λ i. entry (BinaryKind o) (plus 0) i x.place) long) refl
+    (rw long) refl
     (λ rest.
-    ap (feeds (state fs ps g Operand n)) (append_assoc ts (x ∷ us) rest)
-    ∙ goes_on (us ++ rest) x (state (f ∷ fs) ps g Operand m) (joined o x.place) a
+    rw (append_assoc ts (x ∷ us) rest)
+    (goes_on (us ++ rest) x (state (f ∷ fs) ps g Operand m) (joined o x.place) a
     apart.0 apart.1.1 apart.1.0 xe
     (λ s. ap (λ i. joined o x.place (ended i s) (endings i s)) (ends_left o))
-    (λ es.
-    cond-false _ (Err (Unexpected x.place)) (Ok (opened (BinaryMark o) x.place (start fs) Operand (state fs ps g OperatorDue m), es)) (ne_eqb (above fs) (level o) ne)
-    ∙ ap (λ (i : ℕ). Ok (state (frame (BinaryMark o) x.place i m ∷ fs) ps g Operand m, es)) h.starts))
+    (λ es. rw (ne_eqb (above fs) (level o) ne, h.starts))))
 
 reach_if : (x y z : Lexeme) {d n : ℕ} {fs : List Frame} {ps g : List (List ℕ)} {ts us vs : List Lexeme} {t u v : Tree} → Fits 0 (suc d) fs n →
     x.kind ≡ If → y.kind ≡ Then → z.kind ≡ Else →
@@ -209,16 +206,16 @@ reach_if x y z {d} {n} {fs} {ps} {g} {ts} {us} {vs} {t} {u} {v} h xe ye ze a b c
     let me : l ≡ n + length (flatten t ++ flatten u) = simp (length-append, length-flatten) (omega arith) in
     let e = entry IfKind (plus 0) (size t + size u + size v + 1) p in
     wrap (flatten t ++ flatten u) e c
-    refl refl me (ap (λ i. entry IfKind (plus 0) i p) long) (sym (append_assoc (flatten t) (flatten u) (flatten v ++ e ∷ [])))
+    refl refl me (rw long) (sym (append_assoc (flatten t) (flatten u) (flatten v ++ e ∷ [])))
     (λ rest.
-    ap (λ i. feeds (state fs ps g Operand n) (x ∷ i)) (append_assoc ts (y ∷ (us ++ z ∷ vs)) rest ∙ ap (λ i. ts ++ y ∷ i) (append_assoc us (z ∷ vs) rest))
-    ∙ first_token (state fs ps g Operand n) x (ts ++ y ∷ (us ++ z ∷ (vs ++ rest))) xe (entered_whole Condition p d Operand fs ps g n h)
+    rw (append_assoc ts (y ∷ (us ++ z ∷ vs)) rest, append_assoc us (z ∷ vs) rest)
+    (first_token (state fs ps g Operand n) x (ts ++ y ∷ (us ++ z ∷ (vs ++ rest))) xe (entered_whole Condition p d Operand fs ps g n h)
     ∙ goes_on (us ++ z ∷ (vs ++ rest)) y (state (frame ThenMark p n m ∷ fs) ps g Operand m) (turned then_of y.place) a
     refl refl refl ye (λ s. refl) (λ es. refl)
     ∙ ap (prefixed_by (flatten t))
     (goes_on (vs ++ rest) z (state (frame ElseMark p n l ∷ fs) ps g Operand l) (turned else_of z.place) b
     refl refl refl ze (λ s. refl) (λ es. refl))
-    ∙ prefixed_twice (flatten t) (flatten u) _)
+    ∙ prefixed_twice (flatten t) (flatten u) _))
 
 reach_let : (x i q y : Lexeme) {d n : ℕ} {fs : List Frame} {ps g : List (List ℕ)} {ts us : List Lexeme} {t u : Tree} → Fits 0 (suc d) fs n →
     x.kind ≡ Let → i.kind ≡ Name → q.kind ≡ Binary Equal → y.kind ≡ In →
@@ -231,14 +228,14 @@ reach_let x i q y {d} {n} {fs} {ps} {g} {ts} {us} {t} {u} h xe ie qe ye a b =
     let long : m + size u + 1 - n ≡ size t + size u + 1 = omega arith in
     let me : m ≡ n + length (flatten t) = omega (arith, length-flatten t) in
     wrap (flatten t) (entry LetKind (plus 0) (size t + size u + 1) p) b
-    refl refl me (ap (λ j. entry LetKind (plus 0) j p) long) refl
+    refl refl me (rw long) refl
     (λ rest.
-    ap (λ j. feeds (state fs ps g Operand n) (x ∷ i ∷ q ∷ j)) (append_assoc ts (y ∷ us) rest)
-    ∙ first_token (state fs ps g Operand n) x (i ∷ q ∷ (ts ++ y ∷ (us ++ rest))) xe (entered_whole Binder p d BinderDue fs ps g n h)
+    rw (append_assoc ts (y ∷ us) rest)
+    (first_token (state fs ps g Operand n) x (i ∷ q ∷ (ts ++ y ∷ (us ++ rest))) xe (entered_whole Binder p d BinderDue fs ps g n h)
     ∙ first_token (state (frame Binder p n n ∷ fs) ps g BinderDue n) i (q ∷ (ts ++ y ∷ (us ++ rest))) ie refl
     ∙ first_token (state (frame Value p n n ∷ fs) (i.text ∷ ps) g Equals n) q (ts ++ y ∷ (us ++ rest)) qe refl
     ∙ goes_on (us ++ rest) y (state (frame Body p n m ∷ fs) ps (i.text ∷ g) Operand m)
-    (λ s es. brought (turned in_of y.place s es)) a refl refl refl ye (λ s. refl) (λ es. refl))
+    (λ s es. brought (turned in_of y.place s es)) a refl refl refl ye (λ s. refl) (λ es. refl)))
 
 -- what may stand behind an open bracket or word
 fits_in : {m : Mark} {p n l d : ℕ} {fs : List Frame} → above (frame m p n l ∷ fs) ≡ 0 → deep (frame m p n l ∷ fs) ≡ deep fs + 1 → deep fs + suc d ≤ 64 → Fits 0 d (frame m p n l ∷ fs) l
