@@ -1,15 +1,14 @@
 -- What the grammar derives is read.
 use Rattle.std.proofs.Common.{◌≡◌, ℕ, suc, ◌+◌, ◌-◌, ◌<◌, ◌≤◌, true, List, [], ◌∷◌, ◌++◌, length, Ok, Result, sym, refl, ap, ◌∙◌, append_assoc, arith, length-append}
 use Rattle.std.proofs.lemmas.List.{append-nil}
-use Rattle.std.proofs.lemmas.Bool.{cond-true, le-leb, lt-ltb, eq-eqb, ne_eqb}
+use Rattle.std.proofs.lemmas.Bool.{le-leb, lt-ltb, eq-eqb, ne_eqb}
 use Rattle.refusal.specs.declared.Refusal.{Refusal}
 use Rattle.bytecode.specs.Words.{plus}
-use Rattle.language.specs.Frames.{frame, start, above, left, closed, scoped, leaving, deep, binds, joint}
+use Rattle.language.specs.Frames.{frame, start, above, left, closed, scoped, leaving, deep, binds, kind_of}
 use Rattle.language.specs.Fold.{State, state, Step, named as named_to, enter, enter_whole, ended, endings, joined, then_of, else_of, in_of, turned, brought, shut, finished, sequel_of, gone_on, duly, feeds, followed, prefixed as prefixed_by}
 use Rattle.language.specs.Tokens.{Lexeme}
 use Rattle.language.specs.Tree.{Tree, prefix, binary, choose, bind, size, entry, flatten}
 use Rattle.language.specs.declared.entry.Entry.{Entry}
-use Rattle.language.specs.declared.entry.Kind.TheVariants.{Prefix as PrefixKind, Binary as BinaryKind, If as IfKind, Let as LetKind}
 use Rattle.language.specs.declared.frame.Due.{Due}
 use Rattle.language.specs.declared.frame.Due.TheVariants.{Operand, Binder as BinderDue, Equals, Operator as OperatorDue}
 use Rattle.language.specs.declared.frame.Frame.{Frame}
@@ -123,26 +122,24 @@ goes_on {j} {n} {fs} {ps} {g} {t} {k} rest x u step a lj sj cj ke ge oe =
     ∙ ap (λ y. prefixed_by y (feeds u rest)) all
 
 -- a frame opens behind the entries xs, and ends with what it holds
-wrap : {k n m : ℕ} {f : Frame} {fs : List Frame} {ps g h : List (List ℕ)} {ts us : List Lexeme} {t v : Tree} (xs : List Entry) (e : Entry) →
-    Reached k (f ∷ fs) ps h m us v → binds k f.mark ≡ true → leaving f.mark h ≡ g → m ≡ n + length xs → joint f (m + size v) ≡ e →
-    flatten t ≡ xs ++ (flatten v ++ e ∷ []) →
+wrap : {k n m : ℕ} {f : Frame} {fs : List Frame} {ps g h : List (List ℕ)} {ts us : List Lexeme} {t v : Tree} (xs : List Entry) →
+    Reached k (f ∷ fs) ps h m us v → binds k f.mark ≡ true → leaving f.mark h ≡ g → f.whole ≡ n → m ≡ n + length xs →
+    flatten t ≡ xs ++ (flatten v ++ entry (kind_of f.mark) (plus 0) (size t) f.place ∷ []) →
     ((rest : List Lexeme) → feeds (state fs ps g Operand n) (ts ++ rest) ≡ prefixed_by xs (feeds (state (f ∷ fs) ps h Operand m) (us ++ rest))) →
     Reached k fs ps g n ts t
-wrap {k} {n} {m} {f} {fs} {ps} {h} {t} {v} xs e c b ge me je fe re =
+wrap {k} {n} {m} {f} {fs} {ps} {h} {t} {v} xs c b ge we me fe re =
     let more : m + length c.out ≡ n + length (xs ++ c.out) = simp length-append (omega arith) in
     let long : size t ≡ length xs + size v + 1 = sym (length-flatten t) ∙ ap length fe ∙ simp (length-append, length-flatten) (omega arith) in
     let last : m + size v + 1 ≡ n + size t = omega arith in
+    let je : m + size v + 1 - f.whole ≡ size t = omega arith in
     record {
       frames = c.frames;
       scope = c.scope;
       out = xs ++ c.out;
-      runs = λ rest.
-          rw (← more, re rest, c.runs rest, prefixed_twice);
-      stays = c.stays ∙ cond-true _ _ _ b;
-      keeps = c.keeps ∙ cond-true _ (scoped k fs (leaving f.mark h)) h b ∙ ap (scoped k fs) ge;
-      adds =
-          rw (← more, append_assoc, c.adds, b, je, last, fe)
-          (sym (simp append_assoc));
+      runs = λ rest. rw (← more, re rest, c.runs rest, prefixed_twice);
+      stays = rw b at c.stays;
+      keeps = rw (b, ge) at c.keeps;
+      adds = rw (← more, append_assoc, c.adds, b, je, last, fe) (sym (simp append_assoc));
     }
 
 reach_parens : (d : ℕ) (x y : Lexeme) {n : ℕ} {fs : List Frame} {ps g : List (List ℕ)} {ts : List Lexeme} {t : Tree} → deep fs + suc d ≤ 64 → x.kind ≡ Open → y.kind ≡ Close →
@@ -157,10 +154,8 @@ reach_parens d x y {n} {fs} {ps} {g} {ts} {t} h xe ye a =
 reach_prefix : (d : ℕ) (x : Lexeme) {n : ℕ} {fs : List Frame} {ps g : List (List ℕ)} {o : PrefixOperator} {ts : List Lexeme} {t : Tree} → deep fs + suc d ≤ 64 → x.kind ≡ Prefix o →
     Reached 6 (frame (PrefixMark o) x.place n n ∷ fs) ps g n ts t → Reached 6 fs ps g n (x ∷ ts) (prefix o x.place t)
 reach_prefix d x {n} {fs} {ps} {g} {o} {ts} {t} h xe a =
-    let long : n + size t + 1 - n ≡ size t + 1 = omega arith in
     let none : n ≡ n + 0 = omega arith in
-    wrap [] (entry (PrefixKind o) (plus 0) (size t + 1) x.place) a
-    refl refl none (rw long) refl
+    wrap [] a refl refl refl none refl
     (λ rest.
     first_token (state fs ps g Operand n) x (ts ++ rest) xe (entered (PrefixMark o) x.place d Operand fs ps g n h)
     ∙ sym (prefixed_none _))
@@ -169,22 +164,17 @@ reach_join : (x : Lexeme) {d n : ℕ} {fs : List Frame} {ps g : List (List ℕ)}
     Reached (left_level o) fs ps g n ts t → Reached (suc (level o)) (frame (BinaryMark o) x.place n (n + size t) ∷ fs) ps g (n + size t) us u →
     Reached (level o) fs ps g n (ts ++ x ∷ us) (binary o x.place t u)
 reach_join x {n} {fs} {ps} {g} {o} {ts} {us} {t} {u} h xe a b =
-    let k = level o in
-    let j = left_level o in
     let m = n + size t in
     let f = frame (BinaryMark o) x.place n m in
     let lo = levels o in
     let below : above fs < level o = h.looser o (omega arith) in
     let under : above fs < left_level o = omega arith in
     let ne : (above fs ≡ level o → ⊥) = λ i. omega arith in
-    let apart = none_ends j fs m g (loose j fs under) in
+    let apart = none_ends _ fs m g (loose _ fs under) in
     let le : level o ≤ suc (level o) = omega arith in
     let own : level o ≤ level o = omega arith in
-    let long : m + size u + 1 - n ≡ size t + size u + 1 = omega arith in
     let me : m ≡ n + length (flatten t) = omega (arith, length-flatten t) in
-    wrap (flatten t) (entry (BinaryKind o) (plus 0) (size t + size u + 1) x.place)
-    (reach_tighter le b) (le-leb (level o) (level o) own) refl me
-    (rw long) refl
+    wrap (flatten t) (reach_tighter le b) (le-leb (level o) (level o) own) refl refl me refl
     (λ rest.
     rw (append_assoc ts (x ∷ us) rest)
     (goes_on (us ++ rest) x (state (f ∷ fs) ps g Operand m) (joined o x.place) a
@@ -202,11 +192,8 @@ reach_if x y z {d} {n} {fs} {ps} {g} {ts} {us} {vs} {t} {u} {v} h xe ye ze a b c
     let p = x.place in
     let m = n + size t in
     let l = n + size t + size u in
-    let long : l + size v + 1 - n ≡ size t + size u + size v + 1 = omega arith in
     let me : l ≡ n + length (flatten t ++ flatten u) = simp (length-append, length-flatten) (omega arith) in
-    let e = entry IfKind (plus 0) (size t + size u + size v + 1) p in
-    wrap (flatten t ++ flatten u) e c
-    refl refl me (rw long) (sym (append_assoc (flatten t) (flatten u) (flatten v ++ e ∷ [])))
+    wrap (flatten t ++ flatten u) c refl refl refl me (rw append_assoc)
     (λ rest.
     rw (append_assoc ts (y ∷ (us ++ z ∷ vs)) rest, append_assoc us (z ∷ vs) rest)
     (first_token (state fs ps g Operand n) x (ts ++ y ∷ (us ++ z ∷ (vs ++ rest))) xe (entered_whole Condition p d Operand fs ps g n h)
@@ -225,10 +212,8 @@ reach_let : (x i q y : Lexeme) {d n : ℕ} {fs : List Frame} {ps g : List (List 
 reach_let x i q y {d} {n} {fs} {ps} {g} {ts} {us} {t} {u} h xe ie qe ye a b =
     let p = x.place in
     let m = n + size t in
-    let long : m + size u + 1 - n ≡ size t + size u + 1 = omega arith in
     let me : m ≡ n + length (flatten t) = omega (arith, length-flatten t) in
-    wrap (flatten t) (entry LetKind (plus 0) (size t + size u + 1) p) b
-    refl refl me (rw long) refl
+    wrap (flatten t) b refl refl refl me refl
     (λ rest.
     rw (append_assoc ts (y ∷ us) rest)
     (first_token (state fs ps g Operand n) x (i ∷ q ∷ (ts ++ y ∷ (us ++ rest))) xe (entered_whole Binder p d BinderDue fs ps g n h)

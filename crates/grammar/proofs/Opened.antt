@@ -1,7 +1,7 @@
 -- What has been read while frames are open, and what it becomes where they end.
 use Rattle.std.proofs.Common.{◌≡◌, ℕ, zero, suc, ◌+◌, ◌-◌, ◌<◌, ◌≤◌, Bool, true, false, cond, List, [], ◌∷◌, ◌++◌, length, drop, sym, refl, ap, ◌∙◌, subst, inl, inr, append_assoc, arith, length-append}
 use Rattle.std.proofs.lemmas.List.{append-nil}
-use Rattle.std.proofs.lemmas.Bool.{cond-true, leb-true, cases_eq}
+use Rattle.std.proofs.lemmas.Bool.{leb-true, cases_eq}
 use Rattle.bytecode.specs.Words.{plus}
 use Rattle.language.specs.Frames.{left, closed, scoped, leaving, frame, deep, above, start, binds, kind_of, nests}
 use Rattle.language.specs.Tokens.{Lexeme}
@@ -64,7 +64,7 @@ pub depths : {fs : List Frame} {ps g : List (List ℕ)} {es : List Entry} {ts : 
 depths nothing = refl
 depths (more q c we ne ee te) = nested c _ ∙ depths q
 
-pub lower : {g : List (List ℕ)} {d : ℕ} {ts : List Lexeme} {t : Tree} (j k : ℕ) → k ≤ j → Derives j g d ts t → Derives k g d ts t
+lower : {g : List (List ℕ)} {d : ℕ} {ts : List Lexeme} {t : Tree} (j k : ℕ) → k ≤ j → Derives j g d ts t → Derives k g d ts t
 lower {g} {d} {ts} {t} zero k h r = let e : 0 ≡ k = omega arith in subst (λ x. Derives x g d ts t) e r
 lower {g} {d} {ts} {t} (suc j) k h r =
     elim (cases_eq (suc j) k) [ inl e ↦ subst (λ x. Derives x g d ts t) e r | inr e ↦ lower j k (omega arith) (tighter r) ]
@@ -182,8 +182,6 @@ finishes : {k : ℕ} {fs : List Frame} {m : Mark} {p : ℕ} {ps ps' g g' : List 
     (u : Ends k fs m p ps ps' g g' d zs us vs v) → binds k m ≡ true → w ≡ length es → es' ≡ es ++ zs → ts' ≡ ts ++ us →
     Closes k fs ps g es ts (us ++ vs) u.tree → Closes k (frame m p w n ∷ fs) ps' g' es' ts' vs v
 finishes {k} {fs} {m} {p} {g} {g'} {zs} {us} {vs} {v} w n es es' ts ts' u b we ee te c =
-    let stay : left k (frame m p w n ∷ fs) ≡ left k fs = cond-true _ _ _ b in
-    let same : scoped k (frame m p w n ∷ fs) g' ≡ scoped k fs g = cond-true _ (scoped k fs (leaving m g')) g' b ∙ ap (scoped k fs) u.around in
     let long : size u.tree ≡ length zs + size v + 1 = sym (length-flatten u.tree) ∙ ap length u.whole ∙ simp (length-append, length-flatten) (omega arith) in
     let next : length (es ++ flatten u.tree) ≡ length (es' ++ flatten v) + 1 = rw ee (simp (length-append, length-flatten) (omega arith)) in
     let made : length (es' ++ flatten v) + 1 - w ≡ size u.tree = rw ee (simp (length-append, length-flatten) (omega arith)) in
@@ -193,8 +191,8 @@ finishes {k} {fs} {m} {p} {g} {g'} {zs} {us} {vs} {v} w n es es' ts ts' u b we e
       front = c.front;
       part = c.part;
       tree = c.tree;
-      still = rw (stay, same, u.waiting) c.still;
-      derived = rw same c.derived;
+      still = rw (b, u.waiting, u.around) c.still;
+      derived = rw (b, u.around) c.derived;
       tokens = c.tokens ∙ sym (rw (te, append_assoc));
       entries = rw (c.entries, next, u.whole, b, made, ee) (simp append_assoc);
     }
