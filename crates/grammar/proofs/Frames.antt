@@ -15,7 +15,7 @@ levels o = grind arith
 pub ends_left : (o : Operator) → ends o ≡ left_level o
 ends_left o = grind arith
 
--- whether the newest frame ends at a level, and which level tells
+-- whether the newest frame ends at a level
 abbrev pub top_binds : ℕ → List Frame → Bool
 top_binds k [] = false
 top_binds k (f ∷ fs) = binds k f.mark

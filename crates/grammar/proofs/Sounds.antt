@@ -153,6 +153,7 @@ nests_whole : (s : State) (out : List Entry) (ts : List Lexeme) (x : Lexeme) (m 
 nests_whole s out ts x m w r f =
     cond_both (eqb (above s.frames) 0) _ _ (λ i. Leads i out (ts ++ x ∷ [])) (λ b. nests s out ts x m w r (λ d q. f d (eqb-true _ _ b) q)) (λ b. tt)
 
+-- a frame that one token opens, where an operand is due then
 opens : (s : State) (out : List Entry) (ts : List Lexeme) (x : Lexeme) (m : Mark) (d : ℕ) → Waits s out ts → Opened s.frames s.pending s.scope out ts (suc d) →
     Piece s.frames m x.place s.pending s.pending s.scope s.scope (suc d) d [] (x ∷ []) → Reads (opened m x.place s.count Operand s) out (ts ++ x ∷ [])
 opens s out ts x m d r q c =
