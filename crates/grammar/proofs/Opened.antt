@@ -1,145 +1,93 @@
 -- What has been read while frames are open, and what it becomes where they end.
-use Rattle.std.proofs.Common.{◌≡◌, ℕ, zero, suc, ◌+◌, ◌-◌, ◌<◌, ◌≤◌, true, false, leb, List, [], ◌∷◌, ◌++◌, length, drop, sym, refl, ap, ◌∙◌, subst, inl, inr, append_assoc, arith, length-append}
+use Rattle.std.proofs.Common.{◌≡◌, ℕ, zero, suc, ◌+◌, ◌-◌, ◌<◌, ◌≤◌, Bool, true, false, cond, List, [], ◌∷◌, ◌++◌, length, drop, sym, refl, ap, ◌∙◌, subst, inl, inr, append_assoc, arith, length-append}
 use Rattle.std.proofs.lemmas.List.{append-nil}
-use Rattle.std.proofs.lemmas.Bool.{cond-true, cond-false, leb-true, cases_eq}
+use Rattle.std.proofs.lemmas.Bool.{leb-true, cases_eq}
 use Rattle.bytecode.specs.Words.{plus}
-use Rattle.language.specs.Frames.{left, closed, scoped, leaving, level_by, frame, deep, above, start, binds, joint, kind_of}
+use Rattle.language.specs.Frames.{left, closed, scoped, leaving, frame, deep, above, start, binds, kind_of, nests}
 use Rattle.language.specs.Tokens.{Lexeme}
 use Rattle.language.specs.Tree.{Tree, prefix, binary, choose, bind, size, entry, flatten}
 use Rattle.language.specs.declared.entry.Entry.{Entry}
 use Rattle.language.specs.declared.frame.Frame.{Frame}
 use Rattle.language.specs.declared.frame.Mark.{Mark}
-use Rattle.language.specs.declared.frame.Mark.TheVariants.{Paren, Condition, Then as ThenMark, Else as ElseMark, Binder, Value, Body, Binary as BinaryMark, Prefix as PrefixMark}
+use Rattle.language.specs.declared.frame.Mark.TheVariants.{Paren, Condition, Then as ThenMark, Else as ElseMark, Value, Body, Binary as BinaryMark, Prefix as PrefixMark}
 use Rattle.language.specs.declared.operator.Operator.{Operator}
 use Rattle.language.specs.declared.operator.Operator.TheVariants.{Equal}
 use Rattle.language.specs.declared.operator.Prefix.{Prefix as PrefixOperator}
 use Rattle.language.specs.declared.token.TokenKind.TheVariants.{Name, Binary, Prefix, If, Then, Else, Let, In, Open}
 use Rattle.grammar.specs.Grammar.{level, left_level, Derives, prefixed, join, if_else, let_in, tighter}
-use Rattle.grammar.proofs.Frames.{by_cases, level_low, level_top}
+use Rattle.grammar.proofs.Frames.{levels, top_binds, none_ends}
 use Rattle.grammar.proofs.Trees.{length-flatten}
+
+-- the tokens us open a frame with the mark m and the place p behind the frames fs: they add the entries zs, the names of
+-- the lets in their first expression go from ps to ps', the names of those in their second from g to g', and of the d'
+-- that may nest d are left
+pub data Piece (fs : List Frame) : Mark → ℕ → List (List ℕ) → List (List ℕ) → List (List ℕ) → List (List ℕ) → ℕ → ℕ → List Entry → List Lexeme → Type 0 where
+  inside : {ps g : List (List ℕ)} {d p : ℕ} (x : Lexeme) → x.kind ≡ Open → Piece fs Paren p ps ps g g (suc d) d [] (x ∷ [])
+  before : {ps g : List (List ℕ)} {d p : ℕ} (x : Lexeme) (o : PrefixOperator) → x.kind ≡ Prefix o → p ≡ x.place →
+      Piece fs (PrefixMark o) p ps ps g g (suc d) d [] (x ∷ [])
+  behind : {ps g : List (List ℕ)} {us : List Lexeme} {t : Tree} {d p : ℕ} (x : Lexeme) (o : Operator) →
+      above fs < level o → Derives (left_level o) g d us t → x.kind ≡ Binary o → p ≡ x.place →
+      Piece fs (BinaryMark o) p ps ps g g d d (flatten t) (us ++ x ∷ [])
+  asking : {ps g : List (List ℕ)} {d p : ℕ} (x : Lexeme) → above fs ≡ 0 → x.kind ≡ If → p ≡ x.place →
+      Piece fs Condition p ps ps g g (suc d) d [] (x ∷ [])
+  taking : {ps g : List (List ℕ)} {us : List Lexeme} {t : Tree} {d p : ℕ} (x y : Lexeme) →
+      above fs ≡ 0 → x.kind ≡ If → Derives 0 g d us t → y.kind ≡ Then → p ≡ x.place →
+      Piece fs ThenMark p ps ps g g (suc d) d (flatten t) (x ∷ (us ++ y ∷ []))
+  leaving_it : {ps g : List (List ℕ)} {us vs : List Lexeme} {t u : Tree} {d p : ℕ} (x y z : Lexeme) →
+      above fs ≡ 0 → x.kind ≡ If → Derives 0 g d us t → y.kind ≡ Then → Derives 0 g d vs u → z.kind ≡ Else → p ≡ x.place →
+      Piece fs ElseMark p ps ps g g (suc d) d (flatten t ++ flatten u) (x ∷ (us ++ y ∷ (vs ++ z ∷ [])))
+  valuing : {ps ps' g : List (List ℕ)} {d p : ℕ} (x m q : Lexeme) →
+      above fs ≡ 0 → x.kind ≡ Let → m.kind ≡ Name → q.kind ≡ Binary Equal → ps' ≡ m.text ∷ ps → p ≡ x.place →
+      Piece fs Value p ps ps' g g (suc d) d [] (x ∷ m ∷ q ∷ [])
+  binding : {ps g g' : List (List ℕ)} {us : List Lexeme} {t : Tree} {d p : ℕ} (x m q y : Lexeme) →
+      above fs ≡ 0 → x.kind ≡ Let → m.kind ≡ Name → q.kind ≡ Binary Equal → Derives 0 g d us t → y.kind ≡ In → g' ≡ m.text ∷ g → p ≡ x.place →
+      Piece fs Body p ps ps g g' (suc d) d (flatten t) (x ∷ m ∷ q ∷ (us ++ y ∷ []))
 
 -- the tokens ts left the frames fs open with the entries es, the names ps of the lets in their first expression and
 -- the names g of those in their second, and d more may nest
 pub data Opened : List Frame → List (List ℕ) → List (List ℕ) → List Entry → List Lexeme → ℕ → Type 0 where
   nothing : Opened [] [] [] [] [] 64
-  inside : {fs : List Frame} {ps g : List (List ℕ)} {es : List Entry} {ts ts' : List Lexeme} {d p w n : ℕ} (x : Lexeme) →
-      Opened fs ps g es ts (suc d) → x.kind ≡ Open → w ≡ length es → n ≡ length es → ts' ≡ ts ++ x ∷ [] →
-      Opened (frame Paren p w n ∷ fs) ps g es ts' d
-  before : {fs : List Frame} {ps g : List (List ℕ)} {es : List Entry} {ts ts' : List Lexeme} {d p w n : ℕ} (x : Lexeme) (o : PrefixOperator) →
-      Opened fs ps g es ts (suc d) → x.kind ≡ Prefix o → p ≡ x.place → w ≡ length es → n ≡ length es → ts' ≡ ts ++ x ∷ [] →
-      Opened (frame (PrefixMark o) p w n ∷ fs) ps g es ts' d
-  behind : {fs : List Frame} {ps g : List (List ℕ)} {es es' : List Entry} {ts us ts' : List Lexeme} {t : Tree} {d p w n : ℕ} (x : Lexeme) (o : Operator) →
-      Opened fs ps g es ts d → above fs < level o → Derives (left_level o) g d us t →
-      x.kind ≡ Binary o → p ≡ x.place → w ≡ length es → n ≡ length es' → es' ≡ es ++ flatten t → ts' ≡ ts ++ (us ++ x ∷ []) →
-      Opened (frame (BinaryMark o) p w n ∷ fs) ps g es' ts' d
-  asking : {fs : List Frame} {ps g : List (List ℕ)} {es : List Entry} {ts ts' : List Lexeme} {d p w n : ℕ} (x : Lexeme) →
-      Opened fs ps g es ts (suc d) → above fs ≡ 0 → x.kind ≡ If → p ≡ x.place → w ≡ length es → n ≡ length es → ts' ≡ ts ++ x ∷ [] →
-      Opened (frame Condition p w n ∷ fs) ps g es ts' d
-  taking : {fs : List Frame} {ps g : List (List ℕ)} {es es' : List Entry} {ts us ts' : List Lexeme} {t : Tree} {d p w n : ℕ} (x y : Lexeme) →
-      Opened fs ps g es ts (suc d) → above fs ≡ 0 → x.kind ≡ If → Derives 0 g d us t → y.kind ≡ Then →
-      p ≡ x.place → w ≡ length es → n ≡ length es' → es' ≡ es ++ flatten t → ts' ≡ ts ++ x ∷ (us ++ y ∷ []) →
-      Opened (frame ThenMark p w n ∷ fs) ps g es' ts' d
-  leaving_it : {fs : List Frame} {ps g : List (List ℕ)} {es es' : List Entry} {ts us vs ts' : List Lexeme} {t u : Tree} {d p w n : ℕ} (x y z : Lexeme) →
-      Opened fs ps g es ts (suc d) → above fs ≡ 0 → x.kind ≡ If → Derives 0 g d us t → y.kind ≡ Then → Derives 0 g d vs u → z.kind ≡ Else →
-      p ≡ x.place → w ≡ length es → n ≡ length es' → es' ≡ es ++ (flatten t ++ flatten u) → ts' ≡ ts ++ x ∷ (us ++ y ∷ (vs ++ z ∷ [])) →
-      Opened (frame ElseMark p w n ∷ fs) ps g es' ts' d
-  valuing : {fs : List Frame} {ps ps' g : List (List ℕ)} {es : List Entry} {ts ts' : List Lexeme} {d p w n : ℕ} (x m q : Lexeme) →
-      Opened fs ps g es ts (suc d) → above fs ≡ 0 → x.kind ≡ Let → m.kind ≡ Name → q.kind ≡ Binary Equal → ps' ≡ m.text ∷ ps →
-      p ≡ x.place → w ≡ length es → n ≡ length es → ts' ≡ ts ++ x ∷ m ∷ q ∷ [] →
-      Opened (frame Value p w n ∷ fs) ps' g es ts' d
-  binding : {fs : List Frame} {ps g g' : List (List ℕ)} {es es' : List Entry} {ts us ts' : List Lexeme} {t : Tree} {d p w n : ℕ} (x m q y : Lexeme) →
-      Opened fs ps g es ts (suc d) → above fs ≡ 0 → x.kind ≡ Let → m.kind ≡ Name → q.kind ≡ Binary Equal → Derives 0 g d us t → y.kind ≡ In → g' ≡ m.text ∷ g →
-      p ≡ x.place → w ≡ length es → n ≡ length es' → es' ≡ es ++ flatten t → ts' ≡ ts ++ x ∷ m ∷ q ∷ (us ++ y ∷ []) →
-      Opened (frame Body p w n ∷ fs) ps g' es' ts' d
+  more : {fs : List Frame} {m : Mark} {ps ps' g g' : List (List ℕ)} {es es' zs : List Entry} {ts ts' us : List Lexeme} {d d' p w n : ℕ} →
+      Opened fs ps g es ts d' → Piece fs m p ps ps' g g' d' d zs us → w ≡ length es → n ≡ length es' → es' ≡ es ++ zs → ts' ≡ ts ++ us →
+      Opened (frame m p w n ∷ fs) ps' g' es' ts' d
 
 pub starts : {fs : List Frame} {ps g : List (List ℕ)} {es : List Entry} {ts : List Lexeme} {d : ℕ} → Opened fs ps g es ts d → start fs ≡ length es
 starts nothing = refl
-starts (inside x q xe we ne te) = ne
-starts (before x o q xe pe we ne te) = ne
-starts (behind x o q l r xe pe we ne ee te) = ne
-starts (asking x q a xe pe we ne te) = ne
-starts (taking x y q a xe r ye pe we ne ee te) = ne
-starts (leaving_it x y z q a xe r ye v ze pe we ne ee te) = ne
-starts (valuing x m e q a xe me ee he pe we ne te) = ne
-starts (binding x m e y q a xe me ie r ye ge pe we ne ee te) = ne
+starts (more q c we ne ee te) = ne
+
+nested : {fs : List Frame} {m : Mark} {ps ps' g g' : List (List ℕ)} {zs : List Entry} {us : List Lexeme} {d d' p : ℕ} →
+    Piece fs m p ps ps' g g' d' d zs us → (k : ℕ) → cond (nests m) (k + 1) k + d ≡ k + d'
+nested (behind x o l r xe pe) k = refl
+nested _ k = omega arith
 
 pub depths : {fs : List Frame} {ps g : List (List ℕ)} {es : List Entry} {ts : List Lexeme} {d : ℕ} → Opened fs ps g es ts d → deep fs + d ≡ 64
 depths nothing = refl
-depths (inside x q xe we ne te) = let h = depths q in omega arith
-depths (before x o q xe pe we ne te) = let h = depths q in omega arith
-depths (behind x o q l r xe pe we ne ee te) = depths q
-depths (asking x q a xe pe we ne te) = let h = depths q in omega arith
-depths (taking x y q a xe r ye pe we ne ee te) = let h = depths q in omega arith
-depths (leaving_it x y z q a xe r ye v ze pe we ne ee te) = let h = depths q in omega arith
-depths (valuing x m e q a xe me ee he pe we ne te) = let h = depths q in omega arith
-depths (binding x m e y q a xe me ie r ye ge pe we ne ee te) = let h = depths q in omega arith
+depths (more q c we ne ee te) = nested c _ ∙ depths q
 
-pub lower : {g : List (List ℕ)} {d : ℕ} {ts : List Lexeme} {t : Tree} (j k : ℕ) → k ≤ j → Derives j g d ts t → Derives k g d ts t
+lower : {g : List (List ℕ)} {d : ℕ} {ts : List Lexeme} {t : Tree} (j k : ℕ) → k ≤ j → Derives j g d ts t → Derives k g d ts t
 lower {g} {d} {ts} {t} zero k h r = let e : 0 ≡ k = omega arith in subst (λ x. Derives x g d ts t) e r
 lower {g} {d} {ts} {t} (suc j) k h r =
     elim (cases_eq (suc j) k) [ inl e ↦ subst (λ x. Derives x g d ts t) e r | inr e ↦ lower j k (omega arith) (tighter r) ]
 
--- the level of an operand that may follow a frame
-abbrev TakesBy : Mark → ℕ → Type 0
-TakesBy Paren j = 0 ≤ j
-TakesBy Condition j = 0 ≤ j
-TakesBy ThenMark j = 0 ≤ j
-TakesBy ElseMark j = 0 ≤ j
-TakesBy Binder j = 0 ≤ j
-TakesBy Value j = 0 ≤ j
-TakesBy Body j = 0 ≤ j
-TakesBy (BinaryMark o) j = level o < j
-TakesBy (PrefixMark o) j = 6 ≤ j
+-- the loosest level of an operand that may follow a frame
+abbrev floor_by : Mark → ℕ
+floor_by (BinaryMark o) = suc (level o)
+floor_by (PrefixMark o) = 6
+floor_by _ = 0
 
-abbrev pub Takes : List Frame → ℕ → Type 0
-Takes [] j = 0 ≤ j
-Takes (f ∷ fs) j = TakesBy f.mark j
+abbrev pub floor : List Frame → ℕ
+floor [] = 0
+floor (f ∷ fs) = floor_by f.mark
 
 -- an operand that is tighter than what is on top may follow, and so may any expression behind an open bracket or word
-tighter_by : (m : Mark) (j : ℕ) → level_by m < j → TakesBy m j
-tighter_by Paren j l = omega arith
-tighter_by Condition j l = omega arith
-tighter_by ThenMark j l = omega arith
-tighter_by ElseMark j l = omega arith
-tighter_by Binder j l = omega arith
-tighter_by Value j l = omega arith
-tighter_by Body j l = omega arith
-tighter_by (BinaryMark o) j l = l
-tighter_by (PrefixMark o) j l = omega arith
+floor_above : (fs : List Frame) (j : ℕ) → above fs < j → floor fs ≤ j
+floor_above fs j l = grind arith
 
-tighter_takes : (fs : List Frame) (j : ℕ) → above fs < j → Takes fs j
-tighter_takes [] j l = omega arith
-tighter_takes (f ∷ fs) j l = tighter_by f.mark j l
+floor_whole : (fs : List Frame) → above fs ≡ 0 → floor fs ≤ 0
+floor_whole fs l = grind (arith, levels)
 
-whole_by : (m : Mark) → level_by m ≡ 0 → TakesBy m 0
-whole_by Paren l = omega arith
-whole_by Condition l = omega arith
-whole_by ThenMark l = omega arith
-whole_by ElseMark l = omega arith
-whole_by Binder l = omega arith
-whole_by Value l = omega arith
-whole_by Body l = omega arith
-whole_by (BinaryMark o) l = absurd (omega (arith, level_low o))
-whole_by (PrefixMark o) l = absurd (omega arith)
-
-whole_takes : (fs : List Frame) → above fs ≡ 0 → Takes fs 0
-whole_takes [] l = omega arith
-whole_takes (f ∷ fs) l = whole_by f.mark l
-
-operand_by : (m : Mark) → TakesBy m 6
-operand_by Paren = omega arith
-operand_by Condition = omega arith
-operand_by ThenMark = omega arith
-operand_by ElseMark = omega arith
-operand_by Binder = omega arith
-operand_by Value = omega arith
-operand_by Body = omega arith
-operand_by (BinaryMark o) = omega (arith, level_top o)
-operand_by (PrefixMark o) = omega arith
-
-pub operand_takes : (fs : List Frame) → Takes fs 6
-operand_takes [] = omega arith
-operand_takes (f ∷ fs) = operand_by f.mark
+pub floor_operand : (fs : List Frame) → floor fs ≤ 6
+floor_operand fs = grind (arith, levels)
 
 -- once all that binds at the level k has ended
 pub record Closes (k : ℕ) (fs : List Frame) (ps g : List (List ℕ)) (es : List Entry) (ts : List Lexeme) (us : List Lexeme) (t : Tree) : Type 0 where
@@ -153,119 +101,106 @@ pub record Closes (k : ℕ) (fs : List Frame) (ps g : List (List ℕ)) (es : Lis
   pub tokens : front ++ part ≡ ts ++ us
   pub entries : out ++ flatten tree ≡ (es ++ flatten t) ++ closed k fs (length (es ++ flatten t))
 
--- a frame that does not end
-stops : (k d : ℕ) (f : Frame) (fs : List Frame) (ps g : List (List ℕ)) (es : List Entry) (ts us : List Lexeme) (t : Tree) → binds k f.mark ≡ false →
-    Opened (f ∷ fs) ps g es ts d → Derives k g d us t → Closes k (f ∷ fs) ps g es ts us t
-stops k d f fs ps g es ts us t b q r =
-    let stay : left k (f ∷ fs) ≡ f ∷ fs = cond-false _ _ _ b in
-    let same : scoped k (f ∷ fs) g ≡ g = cond-false _ _ _ b in
-    let none : closed k (f ∷ fs) (length (es ++ flatten t)) ≡ [] = cond-false _ _ _ b in
+-- frames of which none ends
+stops : (k d : ℕ) (fs : List Frame) (ps g : List (List ℕ)) (es : List Entry) (ts us : List Lexeme) (t : Tree) → top_binds k fs ≡ false →
+    Opened fs ps g es ts d → Derives k g d us t → Closes k fs ps g es ts us t
+stops k d fs ps g es ts us t b q r =
+    let stay = none_ends k fs (length (es ++ flatten t)) g b in
     record {
       d = d;
       out = es;
       front = ts;
       part = us;
       tree = t;
-      still = subst (λ y. Opened y ps (scoped k (f ∷ fs) g) es ts d) (sym stay) (subst (λ y. Opened (f ∷ fs) ps y es ts d) (sym same) q);
-      derived = subst (λ y. Derives k y d us t) (sym same) r;
+      still = rw (stay.0, stay.1.1) q;
+      derived = rw stay.1.1 r;
       tokens = refl;
-      entries = sym (append-nil (es ++ flatten t)) ∙ ap (λ y. (es ++ flatten t) ++ y) (sym none);
+      entries = rw (stay.1.0, append-nil);
     }
 
--- an entry that ends a part: what stands before it, with it, and what ends after it
-one_more : (es xs : List Entry) (e d : Entry) (rest : ℕ → List Entry) → e ≡ d →
-    (es ++ xs) ++ e ∷ rest (length (es ++ xs) + 1) ≡ (es ++ (xs ++ d ∷ [])) ++ rest (length (es ++ (xs ++ d ∷ [])))
-one_more es xs e d rest h =
-    let n : length (es ++ xs) + 1 ≡ length (es ++ (xs ++ d ∷ [])) = simp length-append (omega arith) in
-    ap (λ x. (es ++ xs) ++ x ∷ rest (length (es ++ xs) + 1)) h
-    ∙ ap (λ x. (es ++ xs) ++ d ∷ rest x) n
-    ∙ sym (append_assoc (es ++ xs) (d ∷ []) _)
-    ∙ ap (λ x. x ++ rest (length (es ++ (xs ++ d ∷ [])))) (append_assoc es xs (d ∷ []))
+-- a frame that ends makes one tree of what it holds and of the operand behind it
+record Ends (k : ℕ) (fs : List Frame) (m : Mark) (p : ℕ) (ps ps' g g' : List (List ℕ)) (d : ℕ) (zs : List Entry) (us vs : List Lexeme) (v : Tree) : Type 0 where
+  at : ℕ
+  tree : Tree
+  fits : floor fs ≤ at
+  looser : k ≤ at
+  derived : Derives at g d (us ++ vs) tree
+  whole : flatten tree ≡ zs ++ (flatten v ++ entry (kind_of m) (plus 0) (size tree) p ∷ [])
+  waiting : ps' ≡ ps
+  around : leaving m g' ≡ g
 
--- one that ends, with its entry e
-finishes : (k : ℕ) (f : Frame) (fs : List Frame) (ps g g' : List (List ℕ)) (es es' xs : List Entry) (e : Entry) (ts ts' us vs : List Lexeme) (t v : Tree) →
-    binds k f.mark ≡ true → leaving f.mark g' ≡ g → es' ≡ es ++ xs → joint f (length (es' ++ flatten v)) ≡ e → flatten t ≡ xs ++ (flatten v ++ e ∷ []) →
-    ts ++ us ≡ ts' ++ vs → Closes k fs ps g es ts us t → Closes k (f ∷ fs) ps g' es' ts' vs v
-finishes k f fs ps g g' es es' xs e ts ts' us vs t v b ge ee je fe te c =
-    let stay : left k (f ∷ fs) ≡ left k fs = cond-true _ _ _ b in
-    let same : scoped k (f ∷ fs) g' ≡ scoped k fs g = cond-true _ (scoped k fs (leaving f.mark g')) g' b ∙ ap (scoped k fs) ge in
-    let ys = flatten v in
+ends : {fs : List Frame} {m : Mark} {ps ps' g g' : List (List ℕ)} {zs : List Entry} {us : List Lexeme} {d d' p : ℕ} → Piece fs m p ps ps' g g' d' d zs us →
+    (j k : ℕ) (vs : List Lexeme) (v : Tree) → floor_by m ≤ j → Derives j g' d vs v → binds k m ≡ true → Ends k fs m p ps ps' g g' d' zs us vs v
+ends {fs} (before x o xe pe) j k vs v a r b =
+    record {
+      at = 6;
+      tree = prefix o x.place v;
+      fits = floor_operand fs;
+      looser = leb-true k 6 b;
+      derived = prefixed x o xe (lower j 6 a r);
+      whole = rw pe;
+      waiting = refl;
+      around = refl;
+    }
+ends {fs} (behind {t} x o l c xe pe) j k vs v a r b =
+    record {
+      at = level o;
+      tree = binary o x.place t v;
+      fits = floor_above fs (level o) l;
+      looser = leb-true k (level o) b;
+      derived = rw append_assoc (join x o c xe (lower j (suc (level o)) a r));
+      whole = rw pe;
+      waiting = refl;
+      around = refl;
+    }
+ends {fs} (leaving_it {t} {u} x y z l xe c ye i ze pe) j k vs v a r b =
+    record {
+      at = 0;
+      tree = choose x.place t u v;
+      fits = floor_whole fs l;
+      looser = leb-true k 0 b;
+      derived = simp append_assoc (if_else x y z xe c ye i ze (lower j 0 a r));
+      whole = rw (pe, append_assoc);
+      waiting = refl;
+      around = refl;
+    }
+ends {fs} (binding {t} {d} x m e y l xe me ie c ye ge pe) j k vs v a r b =
+    record {
+      at = 0;
+      tree = bind x.place t v;
+      fits = floor_whole fs l;
+      looser = leb-true k 0 b;
+      derived = rw append_assoc (let_in x m e y xe me ie c ye (subst (λ i. Derives 0 i d vs v) ge (lower j 0 a r)));
+      whole = rw pe;
+      waiting = refl;
+      around = ap (drop 1) ge;
+    }
+ends _ j k vs v a r b = cc
+
+-- what ends with the tree ends behind the operand, and the frame's entry before it
+finishes : {k : ℕ} {fs : List Frame} {m : Mark} {p : ℕ} {ps ps' g g' : List (List ℕ)} {d : ℕ} {zs : List Entry} {us vs : List Lexeme} {v : Tree} (w n : ℕ) (es es' : List Entry) (ts ts' : List Lexeme) →
+    (u : Ends k fs m p ps ps' g g' d zs us vs v) → binds k m ≡ true → w ≡ length es → es' ≡ es ++ zs → ts' ≡ ts ++ us →
+    Closes k fs ps g es ts (us ++ vs) u.tree → Closes k (frame m p w n ∷ fs) ps' g' es' ts' vs v
+finishes {k} {fs} {m} {p} {g} {g'} {zs} {us} {vs} {v} w n es es' ts ts' u b we ee te c =
+    let long : size u.tree ≡ length zs + size v + 1 = sym (length-flatten u.tree) ∙ ap length u.whole ∙ simp (length-append, length-flatten) (omega arith) in
+    let next : length (es ++ flatten u.tree) ≡ length (es' ++ flatten v) + 1 = rw ee (simp (length-append, length-flatten) (omega arith)) in
+    let made : length (es' ++ flatten v) + 1 - w ≡ size u.tree = rw ee (simp (length-append, length-flatten) (omega arith)) in
     record {
       d = c.d;
       out = c.out;
       front = c.front;
       part = c.part;
       tree = c.tree;
-      still =
-          subst (λ y. Opened y ps (scoped k (f ∷ fs) g') c.out c.front c.d) (sym stay)
-          (subst (λ y. Opened (left k fs) ps y c.out c.front c.d) (sym same) c.still);
-      derived = subst (λ y. Derives k y c.d c.part c.tree) (sym same) c.derived;
-      tokens = c.tokens ∙ te;
-      entries =
-          c.entries
-          ∙ ap (λ z. (es ++ z) ++ closed k fs (length (es ++ z))) fe
-          ∙ sym
-          (ap (λ x. (es' ++ ys) ++ x) (cond-true _ _ _ b)
-          ∙ one_more es' ys (joint f (length (es' ++ ys))) e (closed k fs) je
-          ∙ ap (λ z. z ++ closed k fs (length z)) (ap (λ z. z ++ (ys ++ e ∷ [])) ee ∙ append_assoc es xs (ys ++ e ∷ [])));
+      still = rw (b, u.waiting, u.around) c.still;
+      derived = rw (b, u.around) c.derived;
+      tokens = c.tokens ∙ sym (rw (te, append_assoc));
+      entries = rw (c.entries, next, u.whole, b, made, ee) (simp append_assoc);
     }
 
--- the entry of a frame that ends
-made : (m : Mark) (p w n q : ℕ) (es es' xs ys : List Entry) (k : ℕ) → w ≡ length es → p ≡ q → es' ≡ es ++ xs → length xs + length ys ≡ k →
-    joint (frame m p w n) (length (es' ++ ys)) ≡ entry (kind_of m) (plus 0) (k + 1) q
-made m p w n q es es' xs ys k we pe ee h =
-    let l : length es' ≡ length es + length xs = ap length ee ∙ length-append es xs in
-    let s : length (es' ++ ys) + 1 - w ≡ k + 1 = simp length-append (omega arith) in
-    ap (λ x. entry (kind_of m) (plus 0) x p) s ∙ ap (λ x. entry (kind_of m) (plus 0) (k + 1) x) pe
-
-regroup : (a b c : List Lexeme) (x : Lexeme) → a ++ (b ++ x ∷ c) ≡ (a ++ (b ++ x ∷ [])) ++ c
-regroup a b c x = simp append_assoc
-
 pub closes : {fs : List Frame} {ps g : List (List ℕ)} {es : List Entry} {ts : List Lexeme} {d : ℕ} → Opened fs ps g es ts d → (j k : ℕ) (us : List Lexeme) (t : Tree) →
-    Takes fs j → k ≤ j → Derives j g d us t → Closes k fs ps g es ts us t
-closes nothing j k us t a h r =
-    record { d = 64; out = []; front = []; part = us; tree = t; still = nothing; derived = lower j k h r; tokens = refl; entries = sym (append-nil (flatten t)) }
-closes (inside {fs} {ps} {g} {es} {ts} {ts'} {d} x q xe we ne te) j k us t a h r = stops k d _ fs ps g es ts' us t refl (inside x q xe we ne te) (lower j k h r)
-closes (asking {fs} {ps} {g} {es} {ts} {ts'} {d} x q l xe pe we ne te) j k us t a h r =
-    stops k d _ fs ps g es ts' us t refl (asking x q l xe pe we ne te) (lower j k h r)
-closes (taking {fs} {ps} {g} {es} {es'} {ts} {us} {ts'} {t} {d} x y q l xe c ye pe we ne ee te) j k vs v a h r =
-    stops k d _ fs ps g es' ts' vs v refl (taking x y q l xe c ye pe we ne ee te) (lower j k h r)
-closes (valuing {fs} {ps} {ps'} {g} {es} {ts} {ts'} {d} x m e q l xe me ie he pe we ne te) j k us t a h r =
-    stops k d _ fs ps' g es ts' us t refl (valuing x m e q l xe me ie he pe we ne te) (lower j k h r)
-closes (before {fs} {ps} {g} {es} {ts} {ts'} {d} {p} {w} {n} x o q xe pe we ne te) j k us t a h r =
-    by_cases (leb k 6) _
-    (λ b.
-    finishes k (frame (PrefixMark o) p w n) fs ps g g es es [] _ ts ts' (x ∷ us) us (prefix o x.place t) t b refl (sym (append-nil es))
-    (made (PrefixMark o) p w n x.place es es [] (flatten t) (size t) we pe (sym (append-nil es)) (omega (arith, length-flatten t))) refl
-    (regroup ts [] us x ∙ ap (λ y. y ++ us) (sym te))
-    (closes q 6 k (x ∷ us) (prefix o x.place t) (operand_takes fs) (leb-true k 6 b) (prefixed x o xe (lower j 6 a r))))
-    (λ b. stops k d _ fs ps g es ts' us t b (before x o q xe pe we ne te) (lower j k h r))
-closes (behind {fs} {ps} {g} {es} {es'} {ts} {us} {ts'} {t} {d} {p} {w} {n} x o q l c xe pe we ne ee te) j k vs v a h r =
-    let low = level_low o in
-    by_cases (leb k (level o)) _
-    (λ b.
-    finishes k (frame (BinaryMark o) p w n) fs ps g g es es' (flatten t) _ ts ts' (us ++ x ∷ vs) vs (binary o x.place t v) v b refl ee
-    (made (BinaryMark o) p w n x.place es es' (flatten t) (flatten v) (size t + size v) we pe ee (omega (arith, length-flatten t, length-flatten v))) refl
-    (regroup ts us vs x ∙ ap (λ y. y ++ vs) (sym te))
-    (closes q (level o) k (us ++ x ∷ vs) (binary o x.place t v) (tighter_takes fs (level o) l) (leb-true k (level o) b)
-    (join x o c xe (lower j (suc (level o)) a r))))
-    (λ b. stops k d _ fs ps g es' ts' vs v b (behind x o q l c xe pe we ne ee te) (lower j k h r))
-closes (leaving_it {fs} {ps} {g} {es} {es'} {ts} {us} {vs} {ts'} {t} {u} {d} {p} {w} {n} x y z q l xe c ye i ze pe we ne ee te) j k ws v a h r =
-    by_cases (leb k 0) _
-    (λ b.
-    finishes k (frame ElseMark p w n) fs ps g g es es' (flatten t ++ flatten u) _ ts ts' (x ∷ (us ++ y ∷ (vs ++ z ∷ ws))) ws (choose x.place t u v) v b refl ee
-    (made ElseMark p w n x.place es es' (flatten t ++ flatten u) (flatten v) (size t + size u + size v) we pe ee (simp (length-append, length-flatten) (omega arith)))
-    (sym (append_assoc (flatten t) (flatten u) _))
-    (sym (ap (λ i. i ++ ws) te ∙ simp append_assoc))
-    (closes q 0 k (x ∷ (us ++ y ∷ (vs ++ z ∷ ws))) (choose x.place t u v) (whole_takes fs l) (leb-true k 0 b)
-    (if_else x y z xe c ye i ze (lower j 0 a r))))
-    (λ b. stops k d _ fs ps g es' ts' ws v b (leaving_it x y z q l xe c ye i ze pe we ne ee te) (lower j k h r))
-closes (binding {fs} {ps} {g} {g'} {es} {es'} {ts} {us} {ts'} {t} {d} {p} {w} {n} x m e y q l xe me ie c ye ge pe we ne ee te) j k vs v a h r =
-    by_cases (leb k 0) _
-    (λ b.
-    finishes k (frame Body p w n) fs ps g g' es es' (flatten t) _ ts ts' (x ∷ m ∷ e ∷ (us ++ y ∷ vs)) vs (bind x.place t v) v b (ap (drop 1) ge) ee
-    (made Body p w n x.place es es' (flatten t) (flatten v) (size t + size v) we pe ee (omega (arith, length-flatten t, length-flatten v))) refl
-    (sym (ap (λ i. i ++ vs) te ∙ simp append_assoc))
-    (closes q 0 k (x ∷ m ∷ e ∷ (us ++ y ∷ vs)) (bind x.place t v) (whole_takes fs l) (leb-true k 0 b)
-    (let_in x m e y xe me ie c ye (subst (λ i. Derives 0 i d vs v) ge (lower j 0 a r)))))
-    (λ b. stops k d _ fs ps g' es' ts' vs v b (binding x m e y q l xe me ie c ye ge pe we ne ee te) (lower j k h r))
+    floor fs ≤ j → k ≤ j → Derives j g d us t → (b : Bool) → top_binds k fs ≡ b → Closes k fs ps g es ts us t
+closes {fs} {ps} {g} {es} {ts} {d} q j k us t a h r false b = stops k d fs ps g es ts us t b q (lower j k h r)
+closes nothing j k us t a h r true b = cc
+closes (more {es} {es'} {ts} {ts'} {us} {w} {n} q c we ne ee te) j k vs v a h r true b =
+    let u = ends c j k vs v a r b in
+    finishes w n es es' ts ts' u b we ee te (closes q u.at k (us ++ vs) u.tree u.fits u.looser u.derived _ refl)

@@ -1,11 +1,10 @@
 -- What is read, the grammar derives.
 use Rattle.std.proofs.Common.{◌≡◌, ℕ, zero, suc, ◌+◌, ◌<◌, ◌≤◌, cond, eqb, ltb, List, [], ◌∷◌, ◌++◌, length, take, drop, Some, None, Ok, Err, Option, Result, sym, refl, ap, ◌∙◌, subst, append_assoc, arith, length-append}
 use Rattle.std.proofs.lemmas.List.{append-nil}
-use Rattle.std.proofs.lemmas.Bool.{cond-true, cond-false, ltb-true, eqb-true, eqb-false}
+use Rattle.std.proofs.lemmas.Bool.{cond_both, ltb-true, eqb-true, eqb-false}
 use Rattle.refusal.specs.declared.Refusal.{Refusal}
-use Rattle.refusal.specs.declared.Refusal.TheVariants.{Unexpected, TooDeep}
 use Rattle.bytecode.specs.Words.{plus}
-use Rattle.language.specs.Frames.{frame, start, above, left, closed, scoped, deep}
+use Rattle.language.specs.Frames.{frame, above, left, closed, scoped, deep}
 use Rattle.language.specs.Fold.{State, state, Step, going, named as named_to, opened, enter, enter_whole, opening_of, begun, remarked, bound, equated, ended, endings, ends, joined, then_of, else_of, in_of, turn_top, brought, shut_top, finish_top, sequel_of, gone_on, duly, feed, feeds, followed, prefixed, fresh}
 use Rattle.language.specs.Names.{position}
 use Rattle.language.specs.Tokens.{Lexeme}
@@ -16,15 +15,15 @@ use Rattle.language.specs.declared.frame.Due.{Due}
 use Rattle.language.specs.declared.frame.Due.TheVariants.{Operand, Binder as BinderDue, Equals, Operator as OperatorDue}
 use Rattle.language.specs.declared.frame.Frame.{Frame}
 use Rattle.language.specs.declared.frame.Mark.{Mark}
-use Rattle.language.specs.declared.frame.Mark.TheVariants.{Paren, Condition, Then as ThenMark, Else as ElseMark, Binder, Value, Body, Binary as BinaryMark, Prefix as PrefixMark}
+use Rattle.language.specs.declared.frame.Mark.TheVariants.{Paren, Condition, Binder, Value, Body, Prefix as PrefixMark}
 use Rattle.language.specs.declared.operator.Operator.{Operator}
-use Rattle.language.specs.declared.operator.Operator.TheVariants.{Or, And, Equal, AtMost, Plus, Times}
+use Rattle.language.specs.declared.operator.Operator.TheVariants.{Equal}
 use Rattle.language.specs.declared.token.TokenKind.{TokenKind}
-use Rattle.language.specs.declared.token.TokenKind.TheVariants.{Number, Truth, Name, Binary, Prefix, If, Then, Else, Let, In, Open, Close, End, TooLarge, Bad}
+use Rattle.language.specs.declared.token.TokenKind.TheVariants.{Number, Truth, Name, Binary, Prefix, If, Then, Else, Let, In, Open, Close, End}
 use Rattle.grammar.specs.Grammar.{level, left_level, Derives, constant, truth_value, named, parens, Rule}
 use Rattle.grammar.specs.Laws.{Endless, Sound}
-use Rattle.grammar.proofs.Frames.{by_cases, level_low, level_top, ends_left, left_low, left_top, above_left}
-use Rattle.grammar.proofs.Opened.{Opened, nothing, inside, before, behind, asking, taking, leaving_it, valuing, binding, starts, depths, operand_takes, Closes, closes}
+use Rattle.grammar.proofs.Frames.{levels, ends_left, above_left}
+use Rattle.grammar.proofs.Opened.{Piece, Opened, nothing, more, inside, before, behind, asking, taking, leaving_it, valuing, binding, starts, depths, floor_operand, Closes, closes}
 
 -- an operand is due
 record Waits (s : State) (out : List Entry) (ts : List Lexeme) : Type 0 where
@@ -87,20 +86,38 @@ data Reads : State → List Entry → List Lexeme → Type 0 where
   got : {s : State} {out : List Entry} {ts : List Lexeme} → Got s out ts → Reads s out ts
 
 pub err_ok : {X : Type 0} {P : Type 0} (d : Refusal) (u : X) → ◌≡◌ {A = Result X Refusal} (Err d) (Ok u) → P
-err_ok d u e = let z : ◌≡◌ {A = ℕ} 0 1 = cc in absurd (omega arith)
+err_ok d u e = cc
 
-moves : (s v : State) (xs ys out o : List Entry) (ts : List Lexeme) → Reads s o ts → o ≡ out ++ xs → ◌≡◌ {A = Step} (Ok (s, xs)) (Ok (v, ys)) → Reads v (out ++ ys) ts
-moves s v xs ys out o ts r oe e =
-    let p : ◌≡◌ {A = State × List Entry} (s, xs) (v, ys) = cc in
-    subst (λ (z : State × List Entry). Reads z.0 (out ++ z.1) ts) p (subst (λ y. Reads s y ts) oe r)
+-- tokens that are read: what the first adds, and the rest
+pub record Fed (y : Step) (f : State → Result (List Entry) Refusal) (es : List Entry) : Type 0 where
+  pub next : State × List Entry
+  pub rest : List Entry
+  pub went : y ≡ Ok next
+  pub then : f next.0 ≡ Ok rest
+  pub all : next.1 ++ rest ≡ es
+
+pub fed : (y : Step) (f : State → Result (List Entry) Refusal) (es : List Entry) → followed y f ≡ Ok es → Fed y f es
+fed (Err d) f es h = err_ok d es h
+fed (Ok u) f es h = go (f u.0) refl h
+  where
+    go : (r : Result (List Entry) Refusal) → f u.0 ≡ r → prefixed u.1 r ≡ Ok es → Fed (Ok u) f es
+    go (Err d) e h = err_ok d es h
+    go (Ok fs) e h = record { next = u; rest = fs; went = refl; then = e; all = cc }
+
+-- a step that is not refused leads on
+abbrev Leads : Step → List Entry → List Lexeme → Type 0
+Leads (Ok u) out ts = Reads u.0 (out ++ u.1) ts
+Leads (Err e) out ts = Unit {0}
+
+goes : {s : State} {out : List Entry} {ts : List Lexeme} → Reads s out ts → Leads (going s) out ts
+goes r = rw append-nil r
 
 -- an operand of one token
-leafs : (s v : State) (out ys : List Entry) (ts : List Lexeme) (x : Lexeme) (t : Tree) (e : Entry) → Waits s out ts →
-    flatten t ≡ e ∷ [] → ((d : ℕ) → Derives 6 s.scope d (x ∷ []) t) →
-    ◌≡◌ {A = Step} (Ok (state s.frames s.pending s.scope OperatorDue (s.count + 1), e ∷ [])) (Ok (v, ys)) → Reads v (out ++ ys) (ts ++ x ∷ [])
-leafs s v out ys ts x t e r fe de h =
-    let g : Got (state s.frames s.pending s.scope OperatorDue (s.count + 1)) (out ++ e ∷ []) (ts ++ x ∷ []) =
-    record {
+leafs : (s : State) (out : List Entry) (ts : List Lexeme) (x : Lexeme) (t : Tree) (e : Entry) → Waits s out ts → flatten t ≡ e ∷ [] → ((d : ℕ) → Derives 6 s.scope d (x ∷ []) t) →
+    Leads (Ok (state s.frames s.pending s.scope OperatorDue (s.count + 1), e ∷ [])) out (ts ++ x ∷ [])
+leafs s out ts x t e r fe de =
+    got
+    (record {
       d = r.d;
       es = out;
       front = ts;
@@ -109,74 +126,61 @@ leafs s v out ys ts x t e r fe de h =
       still = r.still;
       derived = de r.d;
       tokens = refl;
-      entries = ap (λ y. out ++ y) (sym fe);
+      entries = rw fe;
       done = refl;
       counts = simp length-append (omega (arith, r.counts));
-    } in
-    moves _ v _ ys out _ _ (got g) refl h
+    })
 
-names_in : (s v : State) (out ys : List Entry) (ts : List Lexeme) (x : Lexeme) (o : Option ℕ) → Waits s out ts → x.kind ≡ Name →
-    position x.text s.scope ≡ o → named_to o x.place s ≡ Ok (v, ys) → Reads v (out ++ ys) (ts ++ x ∷ [])
-names_in s v out ys ts x None r k f e = err_ok _ (v, ys) e
-names_in s v out ys ts x (Some i) r k f e = leafs s v out ys ts x (name i x.place) (entry NameKind (plus i) 1 x.place) r refl (λ d. named x k f) e
+names_in : (s : State) (out : List Entry) (ts : List Lexeme) (x : Lexeme) (o : Option ℕ) → Waits s out ts → x.kind ≡ Name → position x.text s.scope ≡ o →
+    Leads (named_to o x.place s) out (ts ++ x ∷ [])
+names_in s out ts x None r k f = tt
+names_in s out ts x (Some i) r k f = leafs s out ts x (name i x.place) (entry NameKind (plus i) 1 x.place) r refl (λ d. named x k f)
 
 -- one more frame that nests
-nests : (s v : State) (out ys : List Entry) (ts : List Lexeme) (x : Lexeme) (m : Mark) (w : Due) → (r : Waits s out ts) →
+nests : (s : State) (out : List Entry) (ts : List Lexeme) (x : Lexeme) (m : Mark) (w : Due) → (r : Waits s out ts) →
     ((d : ℕ) → Opened s.frames s.pending s.scope out ts (suc d) → Reads (opened m x.place s.count w s) out (ts ++ x ∷ [])) →
-    enter m x.place w s ≡ Ok (v, ys) → Reads v (out ++ ys) (ts ++ x ∷ [])
-nests s v out ys ts x m w r f e =
-    by_cases (ltb (deep s.frames) 64) _
-    (λ b.
-    moves _ v _ ys out out _ (less r.d r.still (ltb-true _ _ b)) (sym (append-nil out))
-    (sym (cond-true _ (going (opened m x.place s.count w s)) (Err (TooDeep x.place)) b) ∙ e))
-    (λ b. err_ok _ (v, ys) (sym (cond-false _ (going (opened m x.place s.count w s)) (Err (TooDeep x.place)) b) ∙ e))
+    Leads (enter m x.place w s) out (ts ++ x ∷ [])
+nests s out ts x m w r f =
+    cond_both (ltb (deep s.frames) 64) _ _ (λ i. Leads i out (ts ++ x ∷ [])) (λ b. goes (less r.d r.still (ltb-true _ _ b))) (λ b. tt)
   where
     less : (d : ℕ) → Opened s.frames s.pending s.scope out ts d → deep s.frames < 64 → Reads (opened m x.place s.count w s) out (ts ++ x ∷ [])
     less zero q h = absurd (omega (arith, depths q))
     less (suc d) q h = f d q
 
-nests_whole : (s v : State) (out ys : List Entry) (ts : List Lexeme) (x : Lexeme) (m : Mark) (w : Due) → (r : Waits s out ts) →
+nests_whole : (s : State) (out : List Entry) (ts : List Lexeme) (x : Lexeme) (m : Mark) (w : Due) → (r : Waits s out ts) →
     ((d : ℕ) → above s.frames ≡ 0 → Opened s.frames s.pending s.scope out ts (suc d) → Reads (opened m x.place s.count w s) out (ts ++ x ∷ [])) →
-    enter_whole m x.place w s ≡ Ok (v, ys) → Reads v (out ++ ys) (ts ++ x ∷ [])
-nests_whole s v out ys ts x m w r f e =
-    by_cases (eqb (above s.frames) 0) _
-    (λ b. nests s v out ys ts x m w r (λ d q. f d (eqb-true _ _ b) q) (sym (cond-true _ (enter m x.place w s) (Err (Unexpected x.place)) b) ∙ e))
-    (λ b. err_ok _ (v, ys) (sym (cond-false _ (enter m x.place w s) (Err (Unexpected x.place)) b) ∙ e))
+    Leads (enter_whole m x.place w s) out (ts ++ x ∷ [])
+nests_whole s out ts x m w r f =
+    cond_both (eqb (above s.frames) 0) _ _ (λ i. Leads i out (ts ++ x ∷ [])) (λ b. nests s out ts x m w r (λ d q. f d (eqb-true _ _ b) q)) (λ b. tt)
 
-after_waits : (s v : State) (out ys : List Entry) (ts : List Lexeme) (x : Lexeme) (k : TokenKind) → x.kind ≡ k → Waits s out ts →
-    begun (opening_of k) s k x.place x.text ≡ Ok (v, ys) → Reads v (out ++ ys) (ts ++ x ∷ [])
-after_waits s v out ys ts x (Number n) k r e = leafs s v out ys ts x (number n x.place) (entry NumberKind n 1 x.place) r refl (λ d. constant x k) e
-after_waits s v out ys ts x (Truth b) k r e =
-    leafs s v out ys ts x (truth b x.place) (entry TruthKind (plus (cond b 1 0)) 1 x.place) r refl (λ d. truth_value x k) e
-after_waits s v out ys ts x Name k r e = names_in s v out ys ts x (position x.text s.scope) r k refl e
-after_waits s v out ys ts x (Prefix o) k r e =
-    nests s v out ys ts x (PrefixMark o) Operand r
-    (λ d q. waits (record { d = d; still = before x o q k refl r.counts r.counts refl; idle = refl; counts = r.counts })) e
-after_waits s v out ys ts x Open k r e =
-    nests s v out ys ts x Paren Operand r
-    (λ d q. waits (record { d = d; still = inside x q k r.counts r.counts refl; idle = refl; counts = r.counts })) e
-after_waits s v out ys ts x If k r e =
-    nests_whole s v out ys ts x Condition Operand r
-    (λ d a q. waits (record { d = d; still = asking x q a k refl r.counts r.counts refl; idle = refl; counts = r.counts })) e
-after_waits s v out ys ts x Let k r e =
-    nests_whole s v out ys ts x Binder BinderDue r
+-- a frame that one token opens, where an operand is due then
+opens : (s : State) (out : List Entry) (ts : List Lexeme) (x : Lexeme) (m : Mark) (d : ℕ) → Waits s out ts → Opened s.frames s.pending s.scope out ts (suc d) →
+    Piece s.frames m x.place s.pending s.pending s.scope s.scope (suc d) d [] (x ∷ []) → Reads (opened m x.place s.count Operand s) out (ts ++ x ∷ [])
+opens s out ts x m d r q c =
+    waits (record { d = d; still = more q c r.counts r.counts (sym (append-nil out)) refl; idle = refl; counts = r.counts })
+
+after_waits : (s : State) (out : List Entry) (ts : List Lexeme) (x : Lexeme) (k : TokenKind) → x.kind ≡ k → Waits s out ts →
+    Leads (begun (opening_of k) s k x.place x.text) out (ts ++ x ∷ [])
+after_waits s out ts x (Number n) k r = leafs s out ts x (number n x.place) (entry NumberKind n 1 x.place) r refl (λ d. constant x k)
+after_waits s out ts x (Truth b) k r =
+    leafs s out ts x (truth b x.place) (entry TruthKind (plus (cond b 1 0)) 1 x.place) r refl (λ d. truth_value x k)
+after_waits s out ts x Name k r = names_in s out ts x (position x.text s.scope) r k refl
+after_waits s out ts x (Prefix o) k r = nests s out ts x (PrefixMark o) Operand r (λ d q. opens s out ts x (PrefixMark o) d r q (before x o k refl))
+after_waits s out ts x Open k r = nests s out ts x Paren Operand r (λ d q. opens s out ts x Paren d r q (inside x k))
+after_waits s out ts x If k r = nests_whole s out ts x Condition Operand r (λ d a q. opens s out ts x Condition d r q (asking x a k refl))
+after_waits s out ts x Let k r =
+    nests_whole s out ts x Binder BinderDue r
     (λ d a q.
-    lets (record { d = d; fs = s.frames; front = ts; word = x; still = q; outside = a; frames = refl; opens = k; tokens = refl; idle = refl; counts = r.counts })) e
-after_waits s v out ys ts x (Binary o) k r e = err_ok _ (v, ys) e
-after_waits s v out ys ts x Then k r e = err_ok _ (v, ys) e
-after_waits s v out ys ts x Else k r e = err_ok _ (v, ys) e
-after_waits s v out ys ts x In k r e = err_ok _ (v, ys) e
-after_waits s v out ys ts x Close k r e = err_ok _ (v, ys) e
-after_waits s v out ys ts x End k r e = err_ok _ (v, ys) e
-after_waits s v out ys ts x TooLarge k r e = err_ok _ (v, ys) e
-after_waits s v out ys ts x Bad k r e = err_ok _ (v, ys) e
+    lets (record { d = d; fs = s.frames; front = ts; word = x; still = q; outside = a; frames = refl; opens = k; tokens = refl; idle = refl; counts = r.counts }))
+after_waits s out ts x _ k r = tt
 
 -- the name of a let
-after_lets : (s v : State) (out ys : List Entry) (ts : List Lexeme) (x : Lexeme) (k : TokenKind) → x.kind ≡ k → Lets s out ts →
-    bound s k x.place x.text ≡ Ok (v, ys) → Reads v (out ++ ys) (ts ++ x ∷ [])
-after_lets s v out ys ts x Name k r e =
-    let g : Names (state (remarked Value s.count s.frames) (x.text ∷ s.pending) s.scope Equals s.count) out (ts ++ x ∷ []) =
-    record {
+after_lets : (s : State) (out : List Entry) (ts : List Lexeme) (x : Lexeme) (k : TokenKind) → x.kind ≡ k → Lets s out ts →
+    Leads (bound s k x.place x.text) out (ts ++ x ∷ [])
+after_lets s out ts x Name k r =
+    goes
+    (names
+    (record {
       d = r.d;
       fs = r.fs;
       ps = s.pending;
@@ -192,66 +196,23 @@ after_lets s v out ys ts x Name k r e =
       tokens = sym (append_assoc r.front (r.word ∷ []) (x ∷ [])) ∙ ap (λ y. y ++ x ∷ []) r.tokens;
       idle = refl;
       counts = r.counts;
-    } in
-    moves _ v _ ys out out _ (names g) (sym (append-nil out)) e
-after_lets s v out ys ts x (Number n) k r e = err_ok _ (v, ys) e
-after_lets s v out ys ts x (Truth b) k r e = err_ok _ (v, ys) e
-after_lets s v out ys ts x (Binary o) k r e = err_ok _ (v, ys) e
-after_lets s v out ys ts x (Prefix o) k r e = err_ok _ (v, ys) e
-after_lets s v out ys ts x If k r e = err_ok _ (v, ys) e
-after_lets s v out ys ts x Then k r e = err_ok _ (v, ys) e
-after_lets s v out ys ts x Else k r e = err_ok _ (v, ys) e
-after_lets s v out ys ts x Let k r e = err_ok _ (v, ys) e
-after_lets s v out ys ts x In k r e = err_ok _ (v, ys) e
-after_lets s v out ys ts x Open k r e = err_ok _ (v, ys) e
-after_lets s v out ys ts x Close k r e = err_ok _ (v, ys) e
-after_lets s v out ys ts x End k r e = err_ok _ (v, ys) e
-after_lets s v out ys ts x TooLarge k r e = err_ok _ (v, ys) e
-after_lets s v out ys ts x Bad k r e = err_ok _ (v, ys) e
+    }))
+after_lets s out ts x _ k r = tt
 
 -- the `=` of a let
-equates : (s v : State) (out ys : List Entry) (ts : List Lexeme) (x : Lexeme) → x.kind ≡ Binary Equal → Names s out ts →
-    ◌≡◌ {A = Step} (going (state s.frames s.pending s.scope Operand s.count)) (Ok (v, ys)) → Reads v (out ++ ys) (ts ++ x ∷ [])
-equates s v out ys ts x k r e =
+after_names : (s : State) (out : List Entry) (ts : List Lexeme) (x : Lexeme) (k : TokenKind) → x.kind ≡ k → Names s out ts →
+    Leads (equated s k x.place) out (ts ++ x ∷ [])
+after_names s out ts x (Binary Equal) k r =
     let whole : ts ++ x ∷ [] ≡ r.front ++ r.word ∷ r.binder ∷ x ∷ [] =
     ap (λ y. y ++ x ∷ []) (sym r.tokens) ∙ append_assoc r.front (r.word ∷ r.binder ∷ []) (x ∷ []) in
     let held : Opened (frame Value r.word.place s.count s.count ∷ r.fs) s.pending s.scope out (ts ++ x ∷ []) r.d =
-    valuing r.word r.binder x r.still r.outside r.opens r.names k r.pending refl r.counts r.counts whole in
-    let g : Waits (state s.frames s.pending s.scope Operand s.count) out (ts ++ x ∷ []) =
-    record {
-      d = r.d;
-      still = subst (λ y. Opened y s.pending s.scope out (ts ++ x ∷ []) r.d) (sym r.frames) held;
-      idle = refl;
-      counts = r.counts;
-    } in
-    moves _ v _ ys out out _ (waits g) (sym (append-nil out)) e
-
-after_names : (s v : State) (out ys : List Entry) (ts : List Lexeme) (x : Lexeme) (k : TokenKind) → x.kind ≡ k → Names s out ts →
-    equated s k x.place ≡ Ok (v, ys) → Reads v (out ++ ys) (ts ++ x ∷ [])
-after_names s v out ys ts x (Binary Equal) k r e = equates s v out ys ts x k r e
-after_names s v out ys ts x (Binary Or) k r e = err_ok _ (v, ys) e
-after_names s v out ys ts x (Binary And) k r e = err_ok _ (v, ys) e
-after_names s v out ys ts x (Binary AtMost) k r e = err_ok _ (v, ys) e
-after_names s v out ys ts x (Binary Plus) k r e = err_ok _ (v, ys) e
-after_names s v out ys ts x (Binary Times) k r e = err_ok _ (v, ys) e
-after_names s v out ys ts x (Number n) k r e = err_ok _ (v, ys) e
-after_names s v out ys ts x (Truth b) k r e = err_ok _ (v, ys) e
-after_names s v out ys ts x Name k r e = err_ok _ (v, ys) e
-after_names s v out ys ts x (Prefix o) k r e = err_ok _ (v, ys) e
-after_names s v out ys ts x If k r e = err_ok _ (v, ys) e
-after_names s v out ys ts x Then k r e = err_ok _ (v, ys) e
-after_names s v out ys ts x Else k r e = err_ok _ (v, ys) e
-after_names s v out ys ts x Let k r e = err_ok _ (v, ys) e
-after_names s v out ys ts x In k r e = err_ok _ (v, ys) e
-after_names s v out ys ts x Open k r e = err_ok _ (v, ys) e
-after_names s v out ys ts x Close k r e = err_ok _ (v, ys) e
-after_names s v out ys ts x End k r e = err_ok _ (v, ys) e
-after_names s v out ys ts x TooLarge k r e = err_ok _ (v, ys) e
-after_names s v out ys ts x Bad k r e = err_ok _ (v, ys) e
+    more r.still (valuing r.word r.binder x r.outside r.opens r.names k r.pending refl) r.counts r.counts (sym (append-nil out)) whole in
+    goes (waits (record { d = r.d; still = rw r.frames held; idle = refl; counts = r.counts }))
+after_names s out ts x _ k r = tt
 
 closing : (s : State) (out : List Entry) (ts : List Lexeme) (k : ℕ) → k ≤ 6 → (g : Got s out ts) →
     Closes k s.frames s.pending s.scope g.es g.front g.part g.tree
-closing s out ts k h g = closes g.still 6 k g.part g.tree (operand_takes s.frames) h g.derived
+closing s out ts k h g = closes g.still 6 k g.part g.tree (floor_operand s.frames) h g.derived _ refl
 
 closed_out : (s : State) (out : List Entry) (ts : List Lexeme) (k : ℕ) (g : Got s out ts)
     (c : Closes k s.frames s.pending s.scope g.es g.front g.part g.tree) →
@@ -281,78 +242,48 @@ outered s out ts g c =
 
 -- `then` behind a condition
 after_then : {gs : List Frame} {ps g : List (List ℕ)} {es : List Entry} {front : List Lexeme} {d : ℕ} → Opened gs ps g es front d →
-    (w : Due) (n : ℕ) (v : State) (zs ys out : List Entry) (ts : List Lexeme) (x : Lexeme) → Outer g (out ++ zs) ts d es front n → x.kind ≡ Then →
-    turn_top then_of x.place gs (state gs ps g w n) zs ≡ Ok (v, ys) → Reads v (out ++ ys) (ts ++ x ∷ [])
-after_then (asking {fs} {ps} {g} {es} {ts = us} {ts'} {d} {p} {w = wh} {n = fi} y q a ye pe we ne te) w n v zs ys out ts x o k e =
-    let whole : ts ++ x ∷ [] ≡ us ++ y ∷ (o.part ++ x ∷ []) =
-    ap (λ i. i ++ x ∷ []) (sym o.tokens ∙ ap (λ i. i ++ o.part) te) ∙ simp append_assoc in
-    let r : Waits (state (frame ThenMark p wh n ∷ fs) ps g Operand n) (out ++ zs) (ts ++ x ∷ []) =
-    record { d = d; still = taking y x q a ye o.derived k pe we o.counts o.entries whole; idle = refl; counts = o.counts } in
-    moves _ v _ ys out _ _ (waits r) refl e
-after_then nothing w n v zs ys out ts x o k e = err_ok _ (v, ys) e
-after_then (inside y q xe we ne te) w n v zs ys out ts x o k e = err_ok _ (v, ys) e
-after_then (before y i q xe pe we ne te) w n v zs ys out ts x o k e = err_ok _ (v, ys) e
-after_then (behind y i q l r xe pe we ne ee te) w n v zs ys out ts x o k e = err_ok _ (v, ys) e
-after_then (taking y z q a xe r ye pe we ne ee te) w n v zs ys out ts x o k e = err_ok _ (v, ys) e
-after_then (leaving_it y z i q a xe r ye c ze pe we ne ee te) w n v zs ys out ts x o k e = err_ok _ (v, ys) e
-after_then (valuing y m i q a xe me ie he pe we ne te) w n v zs ys out ts x o k e = err_ok _ (v, ys) e
-after_then (binding y m i z q a xe me ie r ye ge pe we ne ee te) w n v zs ys out ts x o k e = err_ok _ (v, ys) e
+    (w : Due) (n : ℕ) (zs out : List Entry) (ts : List Lexeme) (x : Lexeme) → Outer g (out ++ zs) ts d es front n → x.kind ≡ Then →
+    Leads (turn_top then_of x.place gs (state gs ps g w n) zs) out (ts ++ x ∷ [])
+after_then (more {es} {ts = us} {d} q (asking y a ye pe) we ne ee te) w n zs out ts x o k =
+    let whole : ts ++ x ∷ [] ≡ us ++ y ∷ (o.part ++ x ∷ []) = rw (← o.tokens, te) (simp append_assoc) in
+    let all : out ++ zs ≡ es ++ flatten o.tree = o.entries ∙ rw (ee, append-nil) in
+    waits (record { d = d; still = more q (taking y x a ye o.derived k pe) we o.counts all whole; idle = refl; counts = o.counts })
+after_then _ w n zs out ts x o k = tt
 
 -- `else` behind a then branch
 after_else : {gs : List Frame} {ps g : List (List ℕ)} {es : List Entry} {front : List Lexeme} {d : ℕ} → Opened gs ps g es front d →
-    (w : Due) (n : ℕ) (v : State) (zs ys out : List Entry) (ts : List Lexeme) (x : Lexeme) → Outer g (out ++ zs) ts d es front n → x.kind ≡ Else →
-    turn_top else_of x.place gs (state gs ps g w n) zs ≡ Ok (v, ys) → Reads v (out ++ ys) (ts ++ x ∷ [])
-after_else (taking {fs} {ps} {g} {es} {es'} {ts = us} {us = cs} {ts'} {t} {d} {p} {w = wh} {n = fi} y z q a ye r ze pe we ne ee te) w n v zs ys out ts x o k e =
-    let whole : ts ++ x ∷ [] ≡ us ++ y ∷ (cs ++ z ∷ (o.part ++ x ∷ [])) =
-    ap (λ i. i ++ x ∷ []) (sym o.tokens ∙ ap (λ i. i ++ o.part) te) ∙ simp append_assoc in
-    let all : out ++ zs ≡ es ++ (flatten t ++ flatten o.tree) = o.entries ∙ ap (λ i. i ++ flatten o.tree) ee ∙ append_assoc es (flatten t) (flatten o.tree) in
-    let f : Waits (state (frame ElseMark p wh n ∷ fs) ps g Operand n) (out ++ zs) (ts ++ x ∷ []) =
-    record { d = d; still = leaving_it y z x q a ye r ze o.derived k pe we o.counts all whole; idle = refl; counts = o.counts } in
-    moves _ v _ ys out _ _ (waits f) refl e
-after_else nothing w n v zs ys out ts x o k e = err_ok _ (v, ys) e
-after_else (inside y q xe we ne te) w n v zs ys out ts x o k e = err_ok _ (v, ys) e
-after_else (before y i q xe pe we ne te) w n v zs ys out ts x o k e = err_ok _ (v, ys) e
-after_else (behind y i q l r xe pe we ne ee te) w n v zs ys out ts x o k e = err_ok _ (v, ys) e
-after_else (asking y q a xe pe we ne te) w n v zs ys out ts x o k e = err_ok _ (v, ys) e
-after_else (leaving_it y z i q a xe r ye c ze pe we ne ee te) w n v zs ys out ts x o k e = err_ok _ (v, ys) e
-after_else (valuing y m i q a xe me ie he pe we ne te) w n v zs ys out ts x o k e = err_ok _ (v, ys) e
-after_else (binding y m i z q a xe me ie r ye ge pe we ne ee te) w n v zs ys out ts x o k e = err_ok _ (v, ys) e
+    (w : Due) (n : ℕ) (zs out : List Entry) (ts : List Lexeme) (x : Lexeme) → Outer g (out ++ zs) ts d es front n → x.kind ≡ Else →
+    Leads (turn_top else_of x.place gs (state gs ps g w n) zs) out (ts ++ x ∷ [])
+after_else (more {es} {ts = us} {d} q (taking {us = cs} {t} y z a ye r ze pe) we ne ee te) w n zs out ts x o k =
+    let whole : ts ++ x ∷ [] ≡ us ++ y ∷ (cs ++ z ∷ (o.part ++ x ∷ [])) = rw (← o.tokens, te) (simp append_assoc) in
+    let all : out ++ zs ≡ es ++ (flatten t ++ flatten o.tree) = o.entries ∙ rw (ee, append_assoc) in
+    waits (record { d = d; still = more q (leaving_it y z x a ye r ze o.derived k pe) we o.counts all whole; idle = refl; counts = o.counts })
+after_else _ w n zs out ts x o k = tt
 
 -- `in` behind the first expression of a let
 after_in : {gs : List Frame} {ps g : List (List ℕ)} {es : List Entry} {front : List Lexeme} {d : ℕ} → Opened gs ps g es front d →
-    (w : Due) (n : ℕ) (v : State) (zs ys out : List Entry) (ts : List Lexeme) (x : Lexeme) → Outer g (out ++ zs) ts d es front n → x.kind ≡ In →
-    brought (turn_top in_of x.place gs (state gs ps g w n) zs) ≡ Ok (v, ys) → Reads v (out ++ ys) (ts ++ x ∷ [])
-after_in (valuing {fs} {ps} {ps'} {g} {es} {ts = us} {ts'} {d} {p} {w = wh} {n = fi} y m i q a ye me ie he pe we ne te) w n v zs ys out ts x o k e =
-    let whole : ts ++ x ∷ [] ≡ us ++ y ∷ m ∷ i ∷ (o.part ++ x ∷ []) =
-    ap (λ j. j ++ x ∷ []) (sym o.tokens ∙ ap (λ j. j ++ o.part) te) ∙ simp append_assoc in
+    (w : Due) (n : ℕ) (zs out : List Entry) (ts : List Lexeme) (x : Lexeme) → Outer g (out ++ zs) ts d es front n → x.kind ≡ In →
+    Leads (brought (turn_top in_of x.place gs (state gs ps g w n) zs)) out (ts ++ x ∷ [])
+after_in (more {fs} {ps} {ps'} {g} {es} {ts = us} {d} {p} {w = wh} q (valuing y m i a ye me ie he pe) we ne ee te) w n zs out ts x o k =
+    let whole : ts ++ x ∷ [] ≡ us ++ y ∷ m ∷ i ∷ (o.part ++ x ∷ []) = rw (← o.tokens, te) (simp append_assoc) in
     let held : Opened (frame Body p wh n ∷ fs) ps (take 1 ps' ++ g) (out ++ zs) (ts ++ x ∷ []) d =
-    binding y m i x q a ye me ie o.derived k (ap (λ j. take 1 j ++ g) he) pe we o.counts o.entries whole in
-    let f : Waits (state (frame Body p wh n ∷ fs) (drop 1 ps') (take 1 ps' ++ g) Operand n) (out ++ zs) (ts ++ x ∷ []) =
-    record {
+    more q (binding y m i x a ye me ie o.derived k (ap (λ j. take 1 j ++ g) he) pe) we o.counts (o.entries ∙ rw (ee, append-nil)) whole in
+    waits
+    (record {
       d = d;
       still = subst (λ j. Opened (frame Body p wh n ∷ fs) j (take 1 ps' ++ g) (out ++ zs) (ts ++ x ∷ []) d) (sym (ap (drop 1) he)) held;
       idle = refl;
       counts = o.counts;
-    } in
-    moves _ v _ ys out _ _ (waits f) refl e
-after_in nothing w n v zs ys out ts x o k e = err_ok _ (v, ys) e
-after_in (inside y q xe we ne te) w n v zs ys out ts x o k e = err_ok _ (v, ys) e
-after_in (before y i q xe pe we ne te) w n v zs ys out ts x o k e = err_ok _ (v, ys) e
-after_in (behind y i q l r xe pe we ne ee te) w n v zs ys out ts x o k e = err_ok _ (v, ys) e
-after_in (asking y q a xe pe we ne te) w n v zs ys out ts x o k e = err_ok _ (v, ys) e
-after_in (taking y z q a xe r ye pe we ne ee te) w n v zs ys out ts x o k e = err_ok _ (v, ys) e
-after_in (leaving_it y z i q a xe r ye c ze pe we ne ee te) w n v zs ys out ts x o k e = err_ok _ (v, ys) e
-after_in (binding y m i z q a xe me ie r ye ge pe we ne ee te) w n v zs ys out ts x o k e = err_ok _ (v, ys) e
+    })
+after_in _ w n zs out ts x o k = tt
 
 -- `)` behind what stands in parentheses
 after_close : {gs : List Frame} {ps g : List (List ℕ)} {es : List Entry} {front : List Lexeme} {d : ℕ} → Opened gs ps g es front d →
-    (w : Due) (n : ℕ) (v : State) (zs ys out : List Entry) (ts : List Lexeme) (x : Lexeme) → Outer g (out ++ zs) ts d es front n → x.kind ≡ Close → w ≡ OperatorDue →
-    shut_top x.place gs (state gs ps g w n) zs ≡ Ok (v, ys) → Reads v (out ++ ys) (ts ++ x ∷ [])
-after_close (inside {fs} {ps} {g} {es} {ts = us} {ts'} {d} y q ye we ne te) w n v zs ys out ts x o k wd e =
-    let whole : us ++ y ∷ (o.part ++ x ∷ []) ≡ ts ++ x ∷ [] =
-    sym (ap (λ i. i ++ x ∷ []) (sym o.tokens ∙ ap (λ i. i ++ o.part) te) ∙ simp append_assoc) in
-    let f : Got (state fs ps g w n) (out ++ zs) (ts ++ x ∷ []) =
-    record {
+    (w : Due) (n : ℕ) (zs out : List Entry) (ts : List Lexeme) (x : Lexeme) → Outer g (out ++ zs) ts d es front n → x.kind ≡ Close → w ≡ OperatorDue →
+    Leads (shut_top x.place gs (state gs ps g w n) zs) out (ts ++ x ∷ [])
+after_close (more {es} {ts = us} {d} q (inside y ye) we ne ee te) w n zs out ts x o k wd =
+    got
+    (record {
       d = suc d;
       es = es;
       front = us;
@@ -360,144 +291,87 @@ after_close (inside {fs} {ps} {g} {es} {ts = us} {ts'} {d} y q ye we ne te) w n 
       tree = o.tree;
       still = q;
       derived = parens y x ye o.derived k;
-      tokens = whole;
-      entries = o.entries;
+      tokens = sym (rw (← o.tokens, te) (simp append_assoc));
+      entries = o.entries ∙ rw (ee, append-nil);
       done = wd;
       counts = o.counts;
-    } in
-    moves _ v _ ys out _ _ (got f) refl e
-after_close nothing w n v zs ys out ts x o k wd e = err_ok _ (v, ys) e
-after_close (before y i q xe pe we ne te) w n v zs ys out ts x o k wd e = err_ok _ (v, ys) e
-after_close (behind y i q l r xe pe we ne ee te) w n v zs ys out ts x o k wd e = err_ok _ (v, ys) e
-after_close (asking y q a xe pe we ne te) w n v zs ys out ts x o k wd e = err_ok _ (v, ys) e
-after_close (taking y z q a xe r ye pe we ne ee te) w n v zs ys out ts x o k wd e = err_ok _ (v, ys) e
-after_close (leaving_it y z i q a xe r ye c ze pe we ne ee te) w n v zs ys out ts x o k wd e = err_ok _ (v, ys) e
-after_close (valuing y m i q a xe me ie he pe we ne te) w n v zs ys out ts x o k wd e = err_ok _ (v, ys) e
-after_close (binding y m i z q a xe me ie r ye ge pe we ne ee te) w n v zs ys out ts x o k wd e = err_ok _ (v, ys) e
+    })
+after_close _ w n zs out ts x o k wd = tt
 
 -- an operator that is not refused
-joins : (o : Operator) (p : ℕ) (u v : State) (es ys : List Entry) → joined o p u es ≡ Ok (v, ys) →
-    (above u.frames ≡ level o → ⊥) × (◌≡◌ {A = Step} (Ok (opened (BinaryMark o) p (start u.frames) Operand u, es)) (Ok (v, ys)))
-joins o p u v es ys e =
-    by_cases (eqb (above u.frames) (level o)) _
-    (λ b. err_ok _ (v, ys) (sym (cond-true _ (Err (Unexpected p)) (Ok (opened (BinaryMark o) p (start u.frames) Operand u, es)) b) ∙ e))
-    (λ b.
-    (eqb-false (above u.frames) (level o) b, sym (cond-false _ (Err (Unexpected p)) (Ok (opened (BinaryMark o) p (start u.frames) Operand u, es)) b) ∙ e))
-
-after_binary : (s v : State) (out ys : List Entry) (ts : List Lexeme) (x : Lexeme) (o : Operator) → x.kind ≡ Binary o → Got s out ts →
-    joined o x.place (ended (ends o) s) (endings (ends o) s) ≡ Ok (v, ys) → Reads v (out ++ ys) (ts ++ x ∷ [])
-after_binary s v out ys ts x o k g e =
+after_binary : (s : State) (out : List Entry) (ts : List Lexeme) (x : Lexeme) (o : Operator) → x.kind ≡ Binary o → Got s out ts →
+    Leads (joined o x.place (ended (ends o) s) (endings (ends o) s)) out (ts ++ x ∷ [])
+after_binary s out ts x o k g =
     let same : ends o ≡ left_level o = ends_left o in
-    let lo = level_low o in
-    let hi = level_top o in
-    let up = left_low o in
-    let down = left_top o in
+    let l = levels o in
     let c = closing s out ts (ends o) (omega arith) g in
     let whole : ts ++ x ∷ [] ≡ c.front ++ (c.part ++ x ∷ []) =
     ap (λ y. y ++ x ∷ []) (sym (c.tokens ∙ g.tokens)) ∙ append_assoc c.front c.part (x ∷ []) in
-    let j = joins o x.place (ended (ends o) s) v (endings (ends o) s) ys e in
-    let apart = j.0 in
     let top : above (left (ends o) s.frames) < ends o = above_left (ends o) s.frames (omega arith) in
+    let counts = ended_counts s out ts (ends o) g in
+    cond_both (eqb (above (left (ends o) s.frames)) (level o)) _ _ (λ i. Leads i out (ts ++ x ∷ [])) (λ b. tt)
+    (λ b.
+    let apart = eqb-false _ _ b in
     let below : above (left (ends o) s.frames) < level o = omega arith in
-    let r : Waits (opened (BinaryMark o) x.place (start (left (ends o) s.frames)) Operand (ended (ends o) s)) (out ++ endings (ends o) s) (ts ++ x ∷ []) =
-    record {
+    waits
+    (record {
       d = c.d;
       still =
-          behind x o c.still below (subst (λ i. Derives i (scoped (ends o) s.frames s.scope) c.d c.part c.tree) same c.derived) k refl (starts c.still)
-          (ended_counts s out ts (ends o) g) (closed_out s out ts (ends o) g c) whole;
+          more c.still (behind x o below (subst (λ i. Derives i (scoped (ends o) s.frames s.scope) c.d c.part c.tree) same c.derived) k refl) (starts c.still)
+          counts (closed_out s out ts (ends o) g c) whole;
       idle = refl;
-      counts = ended_counts s out ts (ends o) g;
-    } in
-    moves _ v _ ys out _ _ (waits r) refl j.1
+      counts = counts;
+    }))
 
-after_got : (s v : State) (out ys : List Entry) (ts : List Lexeme) (x : Lexeme) (k : TokenKind) → x.kind ≡ k → (k ≡ End → ⊥) → Got s out ts →
-    gone_on (sequel_of k) s k x.place ≡ Ok (v, ys) → Reads v (out ++ ys) (ts ++ x ∷ [])
-after_got s v out ys ts x (Binary o) k l g e = after_binary s v out ys ts x o k g e
-after_got s v out ys ts x Then k l g e = let c = closing s out ts 0 (omega arith) g in after_then c.still _ _ v _ ys out ts x (outered s out ts g c) k e
-after_got s v out ys ts x Else k l g e = let c = closing s out ts 0 (omega arith) g in after_else c.still _ _ v _ ys out ts x (outered s out ts g c) k e
-after_got s v out ys ts x In k l g e = let c = closing s out ts 0 (omega arith) g in after_in c.still _ _ v _ ys out ts x (outered s out ts g c) k e
-after_got s v out ys ts x Close k l g e =
-    let c = closing s out ts 0 (omega arith) g in after_close c.still _ _ v _ ys out ts x (outered s out ts g c) k g.done e
-after_got s v out ys ts x End k l g e = absurd (l refl)
-after_got s v out ys ts x (Number n) k l g e = err_ok _ (v, ys) e
-after_got s v out ys ts x (Truth b) k l g e = err_ok _ (v, ys) e
-after_got s v out ys ts x Name k l g e = err_ok _ (v, ys) e
-after_got s v out ys ts x (Prefix o) k l g e = err_ok _ (v, ys) e
-after_got s v out ys ts x Open k l g e = err_ok _ (v, ys) e
-after_got s v out ys ts x If k l g e = err_ok _ (v, ys) e
-after_got s v out ys ts x Let k l g e = err_ok _ (v, ys) e
-after_got s v out ys ts x TooLarge k l g e = err_ok _ (v, ys) e
-after_got s v out ys ts x Bad k l g e = err_ok _ (v, ys) e
+after_got : (s : State) (out : List Entry) (ts : List Lexeme) (x : Lexeme) (k : TokenKind) → x.kind ≡ k → (k ≡ End → ⊥) → Got s out ts →
+    Leads (gone_on (sequel_of k) s k x.place) out (ts ++ x ∷ [])
+after_got s out ts x (Binary o) k l g = after_binary s out ts x o k g
+after_got s out ts x Then k l g = let c = closing s out ts 0 (omega arith) g in after_then c.still _ _ _ out ts x (outered s out ts g c) k
+after_got s out ts x Else k l g = let c = closing s out ts 0 (omega arith) g in after_else c.still _ _ _ out ts x (outered s out ts g c) k
+after_got s out ts x In k l g = let c = closing s out ts 0 (omega arith) g in after_in c.still _ _ _ out ts x (outered s out ts g c) k
+after_got s out ts x Close k l g = let c = closing s out ts 0 (omega arith) g in after_close c.still _ _ _ out ts x (outered s out ts g c) k g.done
+after_got s out ts x End k l g = absurd (l refl)
+after_got s out ts x _ k l g = tt
 
-duly_at : (s : State) (x : Lexeme) (d : Due) → s.due ≡ d → feed s x ≡ duly d s x.kind x.place x.text
-duly_at s x d e = ap (λ i. duly i s x.kind x.place x.text) e
+fed_at : (s : State) (x : Lexeme) (d : Due) (k : TokenKind) → s.due ≡ d → x.kind ≡ k → feed s x ≡ duly d s k x.place x.text
+fed_at s x d k e f = cc
 
-step : (s v : State) (out ys : List Entry) (ts : List Lexeme) (x : Lexeme) → Reads s out ts → (x.kind ≡ End → ⊥) → feed s x ≡ Ok (v, ys) → Reads v (out ++ ys) (ts ++ x ∷ [])
-step s v out ys ts x (waits r) l e = after_waits s v out ys ts x x.kind refl r (sym (duly_at s x Operand r.idle) ∙ e)
-step s v out ys ts x (lets r) l e = after_lets s v out ys ts x x.kind refl r (sym (duly_at s x BinderDue r.idle) ∙ e)
-step s v out ys ts x (names r) l e = after_names s v out ys ts x x.kind refl r (sym (duly_at s x Equals r.idle) ∙ e)
-step s v out ys ts x (got r) l e = after_got s v out ys ts x x.kind refl l r (sym (duly_at s x OperatorDue r.done) ∙ e)
+at_due : (s : State) (x : Lexeme) (d : Due) (out : List Entry) (ts : List Lexeme) → s.due ≡ d → Leads (duly d s x.kind x.place x.text) out ts → Leads (feed s x) out ts
+at_due s x d out ts e r = subst (λ i. Leads i out ts) (sym (fed_at s x d x.kind e refl)) r
 
--- where no frame is open
-bottom : {gs : List Frame} {ps g : List (List ℕ)} {es : List Entry} {ts : List Lexeme} {d : ℕ} → Opened gs ps g es ts d → gs ≡ [] →
-    (g ≡ []) × ((es ≡ []) × ((ts ≡ []) × (d ≡ 64)))
-bottom nothing e = (refl, (refl, (refl, refl)))
-bottom (inside y q xe we ne te) e = let z : ◌≡◌ {A = ℕ} 0 1 = cc in absurd (omega arith)
-bottom (before y i q xe pe we ne te) e = let z : ◌≡◌ {A = ℕ} 0 1 = cc in absurd (omega arith)
-bottom (behind y i q l r xe pe we ne ee te) e = let z : ◌≡◌ {A = ℕ} 0 1 = cc in absurd (omega arith)
-bottom (asking y q a xe pe we ne te) e = let z : ◌≡◌ {A = ℕ} 0 1 = cc in absurd (omega arith)
-bottom (taking y w q a xe r ye pe we ne ee te) e = let z : ◌≡◌ {A = ℕ} 0 1 = cc in absurd (omega arith)
-bottom (leaving_it y w i q a xe r ye c ze pe we ne ee te) e = let z : ◌≡◌ {A = ℕ} 0 1 = cc in absurd (omega arith)
-bottom (valuing y m i q a xe me ie he pe we ne te) e = let z : ◌≡◌ {A = ℕ} 0 1 = cc in absurd (omega arith)
-bottom (binding y m i w q a xe me ie r ye ge pe we ne ee te) e = let z : ◌≡◌ {A = ℕ} 0 1 = cc in absurd (omega arith)
+step : (s : State) (out : List Entry) (ts : List Lexeme) (x : Lexeme) → Reads s out ts → (x.kind ≡ End → ⊥) → Leads (feed s x) out (ts ++ x ∷ [])
+step s out ts x (waits r) l = at_due s x Operand out _ r.idle (after_waits s out ts x x.kind refl r)
+step s out ts x (lets r) l = at_due s x BinderDue out _ r.idle (after_lets s out ts x x.kind refl r)
+step s out ts x (names r) l = at_due s x Equals out _ r.idle (after_names s out ts x x.kind refl r)
+step s out ts x (got r) l = at_due s x OperatorDue out _ r.done (after_got s out ts x x.kind refl l r)
 
-the_end : (s : State) (p : ℕ) (out es : List Entry) (ts : List Lexeme) (g : Got s out ts) →
-    Closes 0 s.frames s.pending s.scope g.es g.front g.part g.tree → (gs : List Frame) → gs ≡ left 0 s.frames →
-    followed (finish_top p gs (ended 0 s) (endings 0 s)) (λ u. Ok []) ≡ Ok es → (t : Tree) × Rule ts t × (out ++ es ≡ flatten t)
-the_end s p out es ts g c (f ∷ fs) ge e = err_ok _ es e
-the_end s p out es ts g c [] ge e =
-    let b = bottom c.still (sym ge) in
-    let whole : c.part ≡ ts = ap (λ y. y ++ c.part) (sym b.1.1.0) ∙ c.tokens ∙ g.tokens in
-    let one = subst (λ y. Derives 0 y c.d c.part c.tree) b.0 c.derived in
-    let two = subst (λ y. Derives 0 [] y c.part c.tree) b.1.1.1 one in
-    let all : endings 0 s ++ [] ≡ es = cc in (
-      c.tree,
-      subst (λ y. Derives 0 [] 64 y c.tree) whole two,
-      ap (λ y. out ++ y) (sym all ∙ append-nil (endings 0 s)) ∙ closed_out s out ts 0 g c ∙ ap (λ y. y ++ flatten c.tree) b.1.0,
-    )
+-- the end of the text, where no frame is open
+the_end : {gs : List Frame} {ps g : List (List ℕ)} {es : List Entry} {front : List Lexeme} {d : ℕ} → Opened gs ps g es front d →
+    (p n : ℕ) (u : State) (zs out fs : List Entry) (ts : List Lexeme) → Outer g (out ++ zs) ts d es front n →
+    followed (finish_top p gs u zs) (λ u. Ok []) ≡ Ok fs → (t : Tree) × Rule ts t × (out ++ fs ≡ flatten t)
+the_end nothing p n u zs out fs ts o e =
+    let all : zs ++ [] ≡ fs = cc in
+    (o.tree, subst (λ y. Rule y o.tree) o.tokens o.derived, ap (λ y. out ++ y) (sym all ∙ append-nil zs) ∙ o.entries)
+the_end _ p n u zs out fs ts o e = err_ok _ fs e
 
 last : (s : State) (out es : List Entry) (ts : List Lexeme) (x : Lexeme) → Reads s out ts → x.kind ≡ End → feeds s (x ∷ []) ≡ Ok es →
     (t : Tree) × Rule ts t × (out ++ es ≡ flatten t)
-last s out es ts x (waits r) k e =
-    err_ok _ es (sym (ap (λ i. followed i (λ u. Ok [])) (duly_at s x Operand r.idle ∙ ap (λ i. duly Operand s i x.place x.text) k)) ∙ e)
-last s out es ts x (lets r) k e =
-    err_ok _ es (sym (ap (λ i. followed i (λ u. Ok [])) (duly_at s x BinderDue r.idle ∙ ap (λ i. duly BinderDue s i x.place x.text) k)) ∙ e)
-last s out es ts x (names r) k e =
-    err_ok _ es (sym (ap (λ i. followed i (λ u. Ok [])) (duly_at s x Equals r.idle ∙ ap (λ i. duly Equals s i x.place x.text) k)) ∙ e)
+last s out es ts x (waits r) k e = let f = fed _ _ es e in err_ok _ f.next (sym (fed_at s x _ _ r.idle k) ∙ f.went)
+last s out es ts x (lets r) k e = let f = fed _ _ es e in err_ok _ f.next (sym (fed_at s x _ _ r.idle k) ∙ f.went)
+last s out es ts x (names r) k e = let f = fed _ _ es e in err_ok _ f.next (sym (fed_at s x _ _ r.idle k) ∙ f.went)
 last s out es ts x (got r) k e =
-    the_end s x.place out es ts r (closing s out ts 0 (omega arith) r) (left 0 s.frames) refl
-    (sym (ap (λ i. followed i (λ u. Ok [])) (duly_at s x OperatorDue r.done ∙ ap (λ i. duly OperatorDue s i x.place x.text) k)) ∙ e)
+    let c = closing s out ts 0 (omega arith) r in
+    the_end c.still x.place _ (ended 0 s) (endings 0 s) out es ts (outered s out ts r c) (sym (ap (λ i. followed i (λ u. Ok [])) (fed_at s x _ _ r.done k)) ∙ e)
 
 sound_from : (ts : List Lexeme) (s : State) (out es : List Entry) (was : List Lexeme) (e : Lexeme) → Endless ts → e.kind ≡ End → Reads s out was →
     feeds s (ts ++ e ∷ []) ≡ Ok es → (t : Tree) × Rule (was ++ ts) t × (out ++ es ≡ flatten t)
 sound_from [] s out es was e l k r h =
     let z = last s out es was e r k h in
     (z.0, subst (λ y. Rule y z.0) (sym (append-nil was)) z.1, z.2)
-sound_from (x ∷ ts) s out es was e l k r h = go (λ v o fs q f. sound_from ts v o fs (was ++ x ∷ []) e l.1 k q f) (feed s x) refl h
-  where
-    more : (v : State) (ys : List Entry) (y : Result (List Entry) Refusal) → feeds v (ts ++ e ∷ []) ≡ y → prefixed ys y ≡ Ok es →
-        ((fs : List Entry) → feeds v (ts ++ e ∷ []) ≡ Ok fs → (t : Tree) × Rule ((was ++ x ∷ []) ++ ts) t × ((out ++ ys) ++ fs ≡ flatten t)) →
-        (t : Tree) × Rule (was ++ x ∷ ts) t × (out ++ es ≡ flatten t)
-    more v ys (Err d) f g rest = err_ok d es g
-    more v ys (Ok fs) f g rest =
-        let z = rest fs f in
-        let all : ys ++ fs ≡ es = cc in
-        (z.0, subst (λ y. Rule y z.0) (append_assoc was (x ∷ []) ts) z.1, ap (λ y. out ++ y) (sym all) ∙ sym (append_assoc out ys fs) ∙ z.2)
-
-    go : ((v : State) (o fs : List Entry) → Reads v o (was ++ x ∷ []) → feeds v (ts ++ e ∷ []) ≡ Ok fs → (t : Tree) × Rule ((was ++ x ∷ []) ++ ts) t × (o ++ fs ≡ flatten t)) →
-        (y : Step) → feed s x ≡ y → followed y (λ v. feeds v (ts ++ e ∷ [])) ≡ Ok es → (t : Tree) × Rule (was ++ x ∷ ts) t × (out ++ es ≡ flatten t)
-    go rest (Ok (v, ys)) f g = more v ys (feeds v (ts ++ e ∷ [])) refl g (λ fs q. rest v (out ++ ys) fs (step s v out ys was x r l.0 f) q)
-    go rest (Err d) f g = err_ok d es g
+sound_from (x ∷ ts) s out es was e l k r h =
+    let f = fed (feed s x) (λ u. feeds u (ts ++ e ∷ [])) es h in
+    let z = sound_from ts f.next.0 (out ++ f.next.1) f.rest (was ++ x ∷ []) e l.1 k (subst (λ y. Leads y out (was ++ x ∷ [])) f.went (step s out was x r l.0)) f.then in
+    (z.0, subst (λ y. Rule y z.0) (append_assoc was (x ∷ []) ts) z.1, ap (λ y. out ++ y) (sym f.all) ∙ sym (append_assoc out f.next.1 f.rest) ∙ z.2)
 
 pub sound : Sound
 sound ts e es l k h = sound_from ts fresh [] es [] e l k (waits (record { d = 64; still = nothing; idle = refl; counts = refl })) h
