@@ -4,6 +4,7 @@ use Rattle.std.proofs.lemmas.List.{length-map}
 use Rattle.refusal.specs.declared.Refusal.{Refusal}
 use Rattle.bytecode.specs.Words.{written}
 use Rattle.bytecode.specs.declared.instruction.Word.{Word}
+use Rattle.language.proofs.Lengths.{length-code}
 use Rattle.language.specs.Code.{Slot, bound, waiting, code, long, tall, field_slots, translation, refusal_of}
 use Rattle.language.specs.Tree.{Tree, number, truth, name, prefix, binary, choose, bind, flatten}
 use Rattle.language.specs.declared.entry.Entry.{Entry}
@@ -12,25 +13,6 @@ use Rattle.compiler.specs.Layouts.{spots_of}
 use Rattle.compiler.specs.Translating.{reason_for}
 use Rattle.shapes.specs.Shapes.{shape_of}
 use Rattle.shapes.specs.declared.shape.Shape.{Shape}
-
--- a tree has as many words as are counted, and at least one
-long_code : (s : List Slot) (t : Tree) → length (code s t) ≡ long t
-long_code s (number k p) = refl
-long_code s (truth b p) = refl
-long_code s (name k p) = refl
-long_code s (prefix o p t) = simp (length-append, long_code s t) (omega arith)
-long_code s (binary o p t u) = simp (length-append, long_code s t, long_code (waiting ∷ s) u) (omega arith)
-long_code s (choose p t u v) = simp (length-append, long_code s t, long_code s u, long_code s v) (omega arith)
-long_code s (bind p t u) = simp (length-append, long_code s t, long_code (bound ∷ s) u) (omega arith)
-
-pub long_some : (t : Tree) → 1 ≤ long t
-long_some (number k p) = omega arith
-long_some (truth b p) = omega arith
-long_some (name k p) = omega arith
-long_some (prefix o p t) = omega arith
-long_some (binary o p t u) = omega arith
-long_some (choose p t u v) = omega arith
-long_some (bind p t u) = omega arith
 
 -- where there is no reason against it, the code is low, thin and short
 pub record Accepted (room : ℕ) (m : Shape) : Type 0 where
@@ -53,7 +35,7 @@ pub whole : (es : List Entry) (spots : List ℕ) (high cap room was : ℕ) (m : 
 whole es spots high cap room was m r before after q e i j l k b f t h =
     let n : reason_for was (shape_of t) ≡ None = sym (ap (reason_for cap) (q t h) ∙ ap (λ x. reason_for x (shape_of t)) i) ∙ e in
     let a = accepted was (shape_of t) n in
-    let c : length (map written (translation t)) ≡ long t = length-map (translation t) written ∙ long_code field_slots t in
+    let c : length (map written (translation t)) ≡ long t = length-map (translation t) written ∙ length-code field_slots t in
     let z : length before ≡ 0 = ap length b in
     let lowness : 8 + tall t ≤ 128 = a.low in
     let shortness : long t ≤ was = a.short in

@@ -15,7 +15,8 @@ use Rattle.language.specs.declared.operator.Prefix.{Prefix}
 use Rattle.language.specs.declared.operator.Prefix.TheVariants.{Not, Increment}
 use Rattle.effects.specs.Laws.{Finds, IsFed}
 use Rattle.effects.proofs.Heights.{Spot, Inside, reached}
-use Rattle.effects.proofs.Lengths.{Lies, cut_code, lies, length-code}
+use Rattle.effects.proofs.Lengths.{Lies, cut_code, lies}
+use Rattle.language.proofs.Lengths.{length-code}
 
 -- how many bindings are on the stack
 abbrev bindings : List Slot → ℕ

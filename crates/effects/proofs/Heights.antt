@@ -14,7 +14,8 @@ use Rattle.language.specs.declared.operator.Prefix.{Prefix}
 use Rattle.language.specs.declared.operator.Prefix.TheVariants.{Not, Increment}
 use Rattle.effects.specs.Effects.{after, Next, Leads, Walks, here, more, steps}
 use Rattle.effects.specs.Laws.{Kept, KeepsHeight, GoesAhead, IsBrief}
-use Rattle.effects.proofs.Lengths.{Lies, cut_code, lies, length-code, long_some}
+use Rattle.effects.proofs.Lengths.{Lies, cut_code, lies}
+use Rattle.language.proofs.Lengths.{length-code, long_some}
 
 -- the place q is p, and the height h is b
 pub record Spot (p b q h : ℕ) : Type 0 where

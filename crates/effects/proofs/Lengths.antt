@@ -2,27 +2,10 @@
 use Rattle.std.proofs.Common.{◌≡◌, ℕ, ◌+◌, ◌*◌, ◌<◌, ◌≤◌, List, [], ◌∷◌, ◌++◌, length, Some, refl, subst, append_assoc, arith, length-append}
 use Rattle.std.specs.List.{slice_get}
 use Rattle.bytecode.specs.declared.instruction.Instruction.{Instruction}
+use Rattle.language.proofs.Lengths.{length-code, long_some}
 use Rattle.language.specs.Code.{Slot, bound, waiting, code, long, tall, field_slots}
 use Rattle.language.specs.Tree.{Tree, number, truth, name, prefix, binary, choose, bind, size}
 use Rattle.effects.specs.Laws.{AreShort}
-
-pub length-code : (s : List Slot) (t : Tree) → length (code s t) ≡ long t
-length-code s (number k x) = refl
-length-code s (truth b x) = refl
-length-code s (name k x) = refl
-length-code s (prefix o x t) = simp (length-append, length-code s t) (omega arith)
-length-code s (binary o x t u) = simp (length-append, length-code s t, length-code (waiting ∷ s) u) (omega arith)
-length-code s (choose x t u v) = simp (length-append, length-code s t, length-code s u, length-code s v) (omega arith)
-length-code s (bind x t u) = simp (length-append, length-code s t, length-code (bound ∷ s) u) (omega arith)
-
-pub long_some : (t : Tree) → 1 ≤ long t
-long_some (number k x) = omega arith
-long_some (truth b x) = omega arith
-long_some (name k x) = omega arith
-long_some (prefix o x t) = omega arith
-long_some (binary o x t u) = omega arith
-long_some (choose x t u v) = omega arith
-long_some (bind x t u) = omega arith
 
 long_few : (t : Tree) → long t ≤ 3 * size t
 long_few (number k x) = omega arith

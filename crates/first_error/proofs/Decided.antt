@@ -9,7 +9,8 @@ use Rattle.language.specs.Reading.{is_last, tokens_from, parse, fitted}
 use Rattle.language.specs.Tokens.{Lexeme, lexeme, after, begins, scanned}
 use Rattle.language.specs.declared.entry.Entry.{Entry}
 use Rattle.first_error.specs.Law.{place_of, extent, SameUpTo, Placed, Decides, ReadingDecides}
-use Rattle.first_error.proofs.Scans.{same_after, same_lexeme, scanned_moves}
+use Rattle.first_error.proofs.Scans.{same_after, same_lexeme}
+use Rattle.language.proofs.Scanning.{scanned_moves}
 use Rattle.first_error.proofs.Steps.{refused_at}
 
 -- tokens are refused at the first of them, or behind it

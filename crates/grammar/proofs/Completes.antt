@@ -22,7 +22,7 @@ use Rattle.language.specs.declared.token.TokenKind.TheVariants.{Number, Truth, N
 use Rattle.grammar.specs.Grammar.{level, left_level, Derives, constant, truth_value, named, parens, prefixed, join, if_else, let_in, tighter}
 use Rattle.grammar.specs.Laws.{Complete}
 use Rattle.grammar.proofs.Frames.{levels, ends_left, loose, none_ends, left_left, scoped_scoped, closed_closed}
-use Rattle.grammar.proofs.Trees.{length-flatten}
+use Rattle.language.proofs.Lengths.{length-flatten}
 
 prefixed_none : (r : Result (List Entry) Refusal) → prefixed_by [] r ≡ r
 prefixed_none r = grind arith

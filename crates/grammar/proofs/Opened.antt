@@ -16,7 +16,7 @@ use Rattle.language.specs.declared.operator.Prefix.{Prefix as PrefixOperator}
 use Rattle.language.specs.declared.token.TokenKind.TheVariants.{Name, Binary, Prefix, If, Then, Else, Let, In, Open}
 use Rattle.grammar.specs.Grammar.{level, left_level, Derives, prefixed, join, if_else, let_in, tighter}
 use Rattle.grammar.proofs.Frames.{levels, top_binds, none_ends}
-use Rattle.grammar.proofs.Trees.{length-flatten}
+use Rattle.language.proofs.Lengths.{length-flatten}
 
 -- the tokens us open a frame with the mark m and the place p behind the frames fs: they add the entries zs, the names of
 -- the lets in their first expression go from ps to ps', the names of those in their second from g to g', and of the d'

@@ -17,35 +17,15 @@ use Rattle.grammar.specs.Laws.{Endless, Means, Unambiguous, TextSound, TextExact
 use Rattle.grammar.proofs.Bounds.{closed}
 use Rattle.grammar.proofs.Completes.{complete}
 use Rattle.grammar.proofs.Sounds.{err_ok, fed, sound}
-use Rattle.grammar.proofs.Trees.{faithful, length-flatten}
+use Rattle.grammar.proofs.Trees.{faithful}
+use Rattle.language.proofs.Lengths.{length-flatten}
+use Rattle.language.proofs.Scanning.{token_moves}
 
 abbrev an_end : Lexeme
 an_end = record { kind = End; place = 0; text = [] }
 
 pub unambiguous : Unambiguous
 unambiguous ts t u r q = faithful t u (cc (complete ts an_end t r refl, complete ts an_end u q refl))
-
--- each token but the last takes a byte
-abbrev Moves : TokenKind × ℕ → Type 0
-Moves t = is_last t.0 ≡ false → 1 ≤ t.1
-
-run_some : (test : ℕ → Bool) (bs : List ℕ) → (length bs ≡ 0 → ⊥) → test (get_or bs 0 0) ≡ true → 1 ≤ run_of test bs
-run_some test [] h t = absurd (h refl)
-run_some test (b ∷ bs) h t = rw t (omega arith)
-
-mark_moves : (two one : Option TokenKind) → Moves (mark_by two one)
-mark_moves two one l = grind arith
-
-scanned_moves : (bs : List ℕ) → Moves (scanned bs)
-scanned_moves bs =
-    cond_both (eqb (length bs) 0) _ _ Moves (λ e l. cc) (λ e.
-    let some = eqb-false (length bs) 0 e in
-    cond_both (is_digit (get_or bs 0 0)) _ _ Moves (λ t l. run_some is_digit bs some t) (λ f.
-    cond_both (is_minus (get_or bs 0 0) (get_or bs 1 0)) _ _ Moves (λ t l. omega arith) (λ f.
-    cond_both (is_small (get_or bs 0 0)) _ _ Moves (λ t l. run_some is_word bs some (or_left _ _ t)) (λ f. mark_moves _ _))))
-
-token_moves : (text : List ℕ) (p : ℕ) → is_last (lexeme text p).kind ≡ false → p < after text p
-token_moves text p l = let h = scanned_moves (drop (begins text p) text) l in omega arith
 
 -- behind the text there is only the end
 past_end : (text : List ℕ) (p : ℕ) → length text ≤ p → (lexeme text p).kind ≡ End

@@ -2,18 +2,12 @@
 use Rattle.std.proofs.Common.{◌≡◌, ℕ, true, false, eqb, List, [], ◌∷◌, ◌++◌, length, sym, refl, ap, ◌∙◌, append_assoc, arith, length-append}
 use Rattle.std.proofs.lemmas.List.{append-nil}
 use Rattle.bytecode.specs.declared.argument.Argument.{Argument}
+use Rattle.language.proofs.Lengths.{length-flatten}
 use Rattle.language.specs.Tree.{Tree, number, truth, name, prefix, binary, choose, bind, size, flatten}
 use Rattle.language.specs.declared.entry.Entry.{Entry}
 use Rattle.language.specs.declared.entry.Kind.{Kind}
 use Rattle.language.specs.declared.entry.Kind.TheVariants.{Number, Truth, Name, Prefix, Binary, If, Let}
 use Rattle.grammar.specs.Laws.{Faithful, Sized}
-
-pub length-flatten : (t : Tree) → length (flatten t) ≡ size t
-length-flatten (prefix o p t) = simp (length-append, length-flatten t) (omega arith)
-length-flatten (binary o p t u) = simp (length-append, length-flatten t, length-flatten u) (omega arith)
-length-flatten (choose p t u v) = simp (length-append, length-flatten t, length-flatten u, length-flatten v) (omega arith)
-length-flatten (bind p t u) = simp (length-append, length-flatten t, length-flatten u) (omega arith)
-length-flatten _ = refl
 
 pub sized : Sized
 sized t = sym (length-flatten t)

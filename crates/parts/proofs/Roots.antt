@@ -5,21 +5,12 @@ use Rattle.std.proofs.lemmas.Option.{slice_get-get_or}
 use Rattle.std.specs.List.{slice_get}
 use Rattle.bytecode.specs.Words.{plus}
 use Rattle.bytecode.specs.declared.argument.Argument.{Argument}
+use Rattle.language.proofs.Lengths.{length-flatten}
 use Rattle.language.specs.Tree.{Tree, number, truth, name, prefix, binary, choose, bind, size, entry, flatten}
 use Rattle.language.specs.declared.entry.Entry.{Entry}
 use Rattle.language.specs.declared.entry.Kind.{Kind}
 use Rattle.language.specs.declared.entry.Kind.TheVariants.{Blank, Number, Truth, Name, Prefix, Binary, If, Let}
 use Rattle.parts.specs.Nodes.{NumberRoot, TruthRoot, PrefixRoot}
-
--- a table has as many entries as its tree has nodes
-pub length-flatten : (t : Tree) → length (flatten t) ≡ size t
-length-flatten (number k p) = refl
-length-flatten (truth b p) = refl
-length-flatten (name k p) = refl
-length-flatten (prefix o p t) = simp (length-append, length-flatten t) (omega arith)
-length-flatten (binary o p t u) = simp (length-append, length-flatten t, length-flatten u) (omega arith)
-length-flatten (choose p t u v) = simp (length-append, length-flatten t, length-flatten u, length-flatten v) (omega arith)
-length-flatten (bind p t u) = simp (length-append, length-flatten t, length-flatten u) (omega arith)
 
 -- the last entry, and the entries before it
 abbrev pub last : Tree → Entry

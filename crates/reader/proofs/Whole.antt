@@ -6,6 +6,7 @@ use Rattle.refusal.specs.declared.Refusal.{Refusal}
 use Rattle.bytecode.specs.Words.{plus}
 use Rattle.bytecode.specs.declared.argument.Argument.{Argument}
 use Rattle.bytecode.proofs.Words.{same_argument}
+use Rattle.language.proofs.Scanning.{token_moves}
 use Rattle.language.specs.Fold.{State, Step, begun_by, begun, remarked, bound, ended, endings, ends, joined, turn_to, turn_top, brought, shut_top, finish_top, gone_on_by, gone_on, duly, feed, feeds, prefixed}
 use Rattle.language.specs.Frames.{left, closed}
 use Rattle.language.specs.Reading.{is_last, tokens_from, leaves}
@@ -87,37 +88,6 @@ feed_counts s t = counts_duly s.due s t.kind t.place t.text
 
 laid_more : (table : List Entry) (n : ℕ) (es : List Entry) (r : Result (List Entry) Refusal) → laid table n (prefixed es r) ≡ laid (put table n es) (n + length es) r
 laid_more table n es r = grind (arith, put_more, length-append)
-
--- each token but the last takes a byte
-run_some : (test : ℕ → Bool) (b : ℕ) (bs : List ℕ) → test b ≡ true → 1 ≤ run_of test (b ∷ bs)
-run_some test b bs h = grind arith
-
-Moves : TokenKind × ℕ → Type 0
-Moves t = is_last t.0 ≡ false → 1 ≤ t.1
-
-moves_if : (b : Bool) (x y : TokenKind × ℕ) → (b ≡ true → Moves x) → (b ≡ false → Moves y) → Moves (cond b x y)
-moves_if true x y f g = f refl
-moves_if false x y f g = g refl
-
-mark_moves : (two one : Option TokenKind) → Moves (mark_by two one)
-unfolding Moves
-mark_moves two one = grind arith
-
-begun_moves : (b c : ℕ) (bs : List ℕ) → b ≡ get_or bs 0 0 → 1 ≤ length bs → Moves (begun_with b c bs)
-unfolding Moves
-begun_moves b c [] e h = absurd (omega arith)
-begun_moves b c (d ∷ bs) e h =
-    moves_if (is_digit b) _ _ (λ t l. run_some is_digit d bs (ap is_digit (sym e) ∙ t)) (λ f.
-    moves_if (is_minus b c) _ _ (λ t l. omega arith) (λ f.
-    moves_if (is_small b) _ _ (λ t l. run_some is_word d bs (ap is_word (sym e) ∙ or_left (is_small b) (leb 65 b && leb b 90 || is_digit b) t)) (λ f. mark_moves (two_mark b c) (one_mark b))))
-
-scanned_moves : (bs : List ℕ) → Moves (scanned bs)
-unfolding Moves
-scanned_moves bs = grind (arith, begun_moves, eqb-false)
-
-pub token_moves : (text : List ℕ) (p : ℕ) → is_last (lexeme text p).kind ≡ false → p < after text p
-unfolding Moves
-token_moves text p l = let h = scanned_moves (drop (begins text p) text) l in omega arith
 
 -- what a step that was refused, and one that was not, says of the fold
 answered_err : (x : Step) (r : Result (Unit {0}) Refusal) (old new : Parser) (e : Refusal) → Answered x r old new → r ≡ Err e → x ≡ Err e

@@ -3,7 +3,8 @@ use Rattle.std.proofs.Common.{◌≡◌, sym, ap, ◌∙◌, arith}
 use Rattle.std.proofs.Math.Logic.{∥∥₁_elim}
 use Rattle.language.specs.Tree.{Tree, flatten}
 use Rattle.compiler.specs.Translating.{code_after}
-use Rattle.compiler.proofs.Translated.{whole, no_refusal, long_some}
+use Rattle.compiler.proofs.Translated.{whole, no_refusal}
+use Rattle.language.proofs.Lengths.{long_some}
 use Rattle.compiler.proofs.writing.translate.Goals as goal
 
 pub invariant_of-result-clause-some : goal.invariant_of-result-clause-some

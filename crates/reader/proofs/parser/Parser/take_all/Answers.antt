@@ -6,7 +6,8 @@ use Rattle.language.specs.Tokens.{lexeme, after}
 use Rattle.lexer.specs.Lexing.{plain}
 use Rattle.reader.specs.Outcomes.{laid}
 use Rattle.reader.specs.Steps.{view}
-use Rattle.reader.proofs.Whole.{token_moves, paired_err, turn_err, turn_last, turn_on}
+use Rattle.language.proofs.Scanning.{token_moves}
+use Rattle.reader.proofs.Whole.{paired_err, turn_err, turn_last, turn_on}
 use Rattle.reader.proofs.parser.Parser.take_all.Goals as goal
 
 pub loop-init : goal.loop-init
