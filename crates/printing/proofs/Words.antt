@@ -9,12 +9,11 @@ use Rattle.std.proofs.lemmas.Bool.Decides.{nat_tests}
 use Rattle.std.specs.Option.{option_map}
 use Rattle.std.specs.Int.{IsInRange}
 use Rattle.std.specs.Str.{all_ascii_digits, bytes_eq}
-use Rattle.bytecode.specs.Words.{argument_of}
 use Rattle.bytecode.specs.declared.argument.Argument.{Argument}
 use Rattle.bytecode.proofs.Words.{argument_back}
 use Rattle.language.specs.Names.{position}
 use Rattle.language.specs.Reading.{is_last}
-use Rattle.language.specs.Tokens.{scanned, begun, numeral, numeral_at, number_by, word, longer, is_blank, is_digit, is_word, is_minus, run_of, value_from, sign_of}
+use Rattle.language.specs.Tokens.{scanned, begun, numeral, numeral_at, number_by, word, longer, is_blank, is_digit, is_word, is_minus, run_of, value_from}
 use Rattle.language.specs.declared.operator.Operator.{Operator}
 use Rattle.language.specs.declared.operator.Operator.TheVariants.{Or, And, Equal, AtMost, Plus, Times}
 use Rattle.language.specs.declared.operator.Prefix.{Prefix as PrefixOperator}
@@ -32,16 +31,20 @@ pub record Reads (w : List ℕ) (k : TokenKind) : Type 0 where
 reads : (w : List ℕ) (k : TokenKind) → ((rest : List ℕ) → scanned (w ++ 32 ∷ rest) ≡ (k, length w)) → is_last k ≡ false → ((rest : List ℕ) → run_of is_blank (w ++ 32 ∷ rest) ≡ 0) → Reads w k
 reads w k h l d =
     let e : kind_of w ≡ k = ap (λ s. s.0) (h []) in
-    record { good = record { scans = λ rest. h rest ∙ ap (λ j. (j, length w)) (sym e); more = ap is_last e ∙ l; dark = d }; kind = e }
+    record { good = record { scans = λ rest. rw e (h rest); more = rw e l; dark = d }; kind = e }
 
 -- a text that is not empty
 scanned_some : (b : ℕ) (bs : List ℕ) → scanned (b ∷ bs) ≡ begun b (get_or bs 0 0) (b ∷ bs)
 scanned_some b bs = grind (arith, nat_tests)
 
--- words and marks
+-- words and marks, of which all is computed: the token, whether it is the last, and how many blanks are before it
+abbrev pub Start : Type 0
+Start = (TokenKind × ℕ) × (Bool × ℕ)
+
 pub fixed : (b : ℕ) (bs : List ℕ) (k : TokenKind) →
-    ((rest : List ℕ) → ◌≡◌ {A = (TokenKind × ℕ) × (Bool × ℕ)} (begun b (get_or (bs ++ 32 ∷ rest) 0 0) (b ∷ (bs ++ 32 ∷ rest)), (is_last k, run_of is_blank (b ∷ (bs ++ 32 ∷ rest)))) ((k, suc (length bs)), (false, 0))) → Reads (b ∷ bs) k
-fixed b bs k h = reads (b ∷ bs) k (λ rest. scanned_some b (bs ++ 32 ∷ rest) ∙ ap (λ (z : (TokenKind × ℕ) × (Bool × ℕ)). z.0) (h rest)) (ap (λ (z : (TokenKind × ℕ) × (Bool × ℕ)). z.1.0) (h [])) (λ rest. ap (λ (z : (TokenKind × ℕ) × (Bool × ℕ)). z.1.1) (h rest))
+    ((rest : List ℕ) → ◌≡◌ {A = Start} (begun b (get_or (bs ++ 32 ∷ rest) 0 0) (b ∷ (bs ++ 32 ∷ rest)), (is_last k, run_of is_blank (b ∷ (bs ++ 32 ∷ rest)))) ((k, suc (length bs)), (false, 0))) → Reads (b ∷ bs) k
+fixed b bs k h =
+    reads (b ∷ bs) k (λ rest. scanned_some b (bs ++ 32 ∷ rest) ∙ ap (λ (z : Start). z.0) (h rest)) (ap (λ (z : Start). z.1.0) (h [])) (λ rest. ap (λ (z : Start). z.1.1) (h rest))
 
 pub reads_truth : (b : Bool) → Reads (truth_word b) (Truth b)
 reads_truth true = fixed _ _ _ (λ rest. refl)
@@ -86,11 +89,8 @@ reads_let_name k h =
 numeral_is : (a : Argument) → a.size ≤ 255 → numeral a.negative (decimal a.size) ≡ Number a
 numeral_is a h =
     let s = huge a.size h in
-    let v = digits_value-decimal own a.size s in
-    cond-false (ltb 1 (length (decimal a.size)) && eqb (get_or (decimal a.size) 0 0) 48) Bad _ (no_zero a.size s)
-    ∙ (ap (λ n. cond (ltb 255 n) TooLarge (number_by (argument_of (sign_of a.negative) n))) v
-    ∙ (cond-false (ltb 255 a.size) TooLarge _ (le-ltb 255 a.size h)
-    ∙ ap number_by (argument_back a.negative a.size a.proper)))
+    cond-false _ Bad _ (no_zero a.size s)
+    ∙ rw (digits_value-decimal own a.size s) (cond-false (ltb 255 a.size) TooLarge _ (le-ltb 255 a.size h) ∙ ap number_by (argument_back a.negative a.size a.proper))
   where
     no_zero : (n : ℕ) → n < 2 ^ 64 → (ltb 1 (length (decimal n)) && eqb (get_or (decimal n) 0 0) 48) ≡ false
     no_zero zero s = ap (λ ds. ltb 1 (length ds) && eqb (get_or ds 0 0) 48) (decimal_digit 0 (omega arith))
@@ -98,9 +98,10 @@ numeral_is a h =
 
 numeral_is_at : (a : Argument) → a.size ≤ 255 → (rest : List ℕ) → numeral_at a.negative (decimal a.size ++ 32 ∷ rest) ≡ (Number a, length (decimal a.size))
 numeral_is_at a h rest =
-    ap (λ n. (numeral a.negative (take n (decimal a.size ++ 32 ∷ rest)), n)) (run_digits is_digit (decimal a.size) rest (λ c h. grind (arith, nat_tests)) refl (digits_decimal own a.size (huge a.size h)))
-    ∙ (ap (λ ds. (numeral a.negative ds, length (decimal a.size))) (take_at (decimal a.size) (32 ∷ rest) (length (decimal a.size)) refl)
-    ∙ ap (λ k. (k, length (decimal a.size))) (numeral_is a h))
+    let r = run_digits is_digit (decimal a.size) rest (λ c h. grind (arith, nat_tests)) refl (digits_decimal own a.size (huge a.size h)) in
+    let t = take_at (decimal a.size) (32 ∷ rest) (length (decimal a.size)) refl in
+    let n = numeral_is a h in
+    simp (r, t, n)
 
 -- what begins with a digit is no blank, and is a number
 digits_dark : (ds rest : List ℕ) → all_ascii_digits ds ≡ true → 0 < length ds → run_of is_blank (ds ++ 32 ∷ rest) ≡ 0
@@ -136,9 +137,9 @@ reads_number a h = go a.negative refl
 let_apart : (m k : ℕ) → k < m → m ≤ 255 → bytes_eq (let_name m) (let_name k) ≡ false
 let_apart m k l h = go (bytes_eq (decimal m) (decimal k)) refl
   where
-    go : (b : Bool) → bytes_eq (decimal m) (decimal k) ≡ b → bytes_eq (decimal m) (decimal k) ≡ false
+    go : (b : Bool) → bytes_eq (decimal m) (decimal k) ≡ b → b ≡ false
     go true e = let z = decimal_injective m k (huge m h) (omega arith) ((bytes_eq-Decides (decimal m) (decimal k)).0 e) in absurd (omega arith)
-    go false e = e
+    go false e = refl
 
 -- the name of a binding is a name, stands for it, and is none of the lets within
 pub record Named (k i : ℕ) : Type 0 where
