@@ -30,12 +30,10 @@ pub took : (text : List ℕ) (old new : List Entry) (r : Result ℕ Refusal) (n 
 took text old new r n a l is =
     let was = part_of (reading (length old) text) old new r n a l is in
     let sound = reading_sound (length old) text _ was in
-    let fits = sound.fits in
     let p = sound.parsed in
-    record { was = was; few = omega arith; formed = record { tree = p.tree; table = p.table; bound = p.bound } }
+    record { was = was; few = omega (arith, sound.fits); formed = record { tree = p.tree; table = p.table; bound = p.bound } }
 
 -- a text that is read as the table of a tree
 pub built_read : (R : Result (List Entry) Refusal) (room : ℕ) (es : List Entry) (t : Tree) (r : Result Card Refusal) (before after : List Word) →
     R ≡ Ok es → es ≡ flatten t → Built (unfit room t) (Some t) r before after → Built (refused_in room R) (tree_in R) r before after
-built_read R room es t r before after was table b =
-    rw (was, tree_is t es table) b
+built_read R room es t r before after was table b = rw (was, tree_is t es table) b
