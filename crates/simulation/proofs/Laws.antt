@@ -32,7 +32,7 @@ closes ops law t a acc st fs budget enough (word v) h =
     let s = state (0 + long t) v st h.after (0 + h.steps) in
     let e : runs ops (length ws) (fetch ws) budget (state 0 acc st fs 0) ≡ ended s None =
     ap (λ b. runs ops (length ws) (fetch ws) b (state 0 acc st fs 0)) m
-    ∙ runs_reaches ops (length ws) (fetch ws) (past_end ws) h.steps (budget - h.steps) (state 0 acc st fs 0) s h.comes
+    ∙ runs_reaches ops (length ws) (fetch ws) (past_end ws) h.steps (budget - h.steps) (state 0 acc st fs 0) s h.comes.reaches
     ∙ runs_end ops (length ws) (fetch ws) (past_end ws) (budget - h.steps) s f in
     (0 + h.steps, h.after, (omega (arith, h.few), h.room, h.fits, e ∙ ap (λ q. ended (state q v st h.after (0 + h.steps)) None) z))
 closes ops law t a acc st fs budget enough (over i) (lt, h) =
@@ -43,7 +43,7 @@ closes ops law t a acc st fs budget enough (over i) (lt, h) =
     let s = state (0 + placed t i) h.hand (h.above ++ st) h.after (0 + h.steps) in
     let e : runs ops (length ws) (fetch ws) budget (state 0 acc st fs 0) ≡ ended s (Some (Overflow (0 + placed t i))) =
     ap (λ b. runs ops (length ws) (fetch ws) b (state 0 acc st fs 0)) m
-    ∙ runs_reaches ops (length ws) (fetch ws) (past_end ws) h.steps (suc (budget - h.steps - 1)) (state 0 acc st fs 0) s h.comes
+    ∙ runs_reaches ops (length ws) (fetch ws) (past_end ws) h.steps (suc (budget - h.steps - 1)) (state 0 acc st fs 0) s h.comes.reaches
     ∙ runs_stop ops (length ws) (fetch ws) (past_end ws) (budget - h.steps - 1) (0 + placed t i) s h.stops in
     (0 + h.steps, h.hand, h.above, h.after, (lt, omega (arith, h.few), h.room, e ∙ ap (λ q. ended (state q h.hand (h.above ++ st) h.after (0 + h.steps)) (Some (Overflow q))) z))
 closes ops law t a acc st fs budget enough unbound h = elim h [ ]

@@ -22,22 +22,8 @@ module _ {W : Type 0} (ops : Ops W) (end : ℕ) (get : ℕ → Option (Instructi
   reaches_join (suc k) l s u v (w, (e, q)) r = rw suc-add (w, (e, reaches_join k l w u v q r))
 
   -- the same, with the steps counted
-  abbrev pub Comes : ℕ → ℕ → W → List W → List W → ℕ → ℕ → W → List W → List W → Type 0
-  Comes k p a st fs n q v u gs = Reaches k (state p a st fs n) (state q v u gs (n + k))
-
-  pub comes_join : (k l p : ℕ) (a : W) (st fs : List W) (n q : ℕ) (v : W) (u gs : List W) (r : ℕ) (w : W) (x hs : List W) →
-      Comes k p a st fs n q v u gs → Comes l q v u gs (n + k) r w x hs → Comes (k + l) p a st fs n r w x hs
-  comes_join k l p a st fs n q v u gs r w x hs c d =
-      rw (← add_assoc n k l) (reaches_join k l (state p a st fs n) (state q v u gs (n + k)) (state r w x hs (n + k + l)) c d)
-
-  pub comes_one : (p : ℕ) (a : W) (st fs : List W) (n q : ℕ) (v : W) (u gs : List W) →
-      step ops end get (state p a st fs n) ≡ Ok (state q v u gs (n + 1)) → Comes 1 p a st fs n q v u gs
-  comes_one p a st fs n q v u gs e = (state q v u gs (n + 1), (e, refl))
-
-  -- one step more
-  pub comes_on : (k p : ℕ) (a : W) (st fs : List W) (n q : ℕ) (v : W) (u gs : List W) (r : ℕ) (w : W) (x hs : List W) →
-      Comes k p a st fs n q v u gs → step ops end get (state q v u gs (n + k)) ≡ Ok (state r w x hs (n + k + 1)) → Comes (k + 1) p a st fs n r w x hs
-  comes_on k p a st fs n q v u gs r w x hs c e = comes_join k 1 p a st fs n q v u gs r w x hs c (comes_one q v u gs (n + k) r w x hs e)
+  pub record Comes (k p : ℕ) (a : W) (st fs : List W) (n q : ℕ) (v : W) (u gs : List W) : Type 0 where
+    pub reaches : Reaches k (state p a st fs n) (state q v u gs (n + k))
 
   at_end : (s : State W) → place s ≡ end → step ops end get s ≡ Err (BadWord (place s))
   at_end s h = let le : end ≤ place s = omega arith in ap (λ o. fetched ops end o s) (past (place s) le)
@@ -69,3 +55,12 @@ module _ {W : Type 0} (ops : Ops W) (end : ℕ) (get : ℕ → Option (Instructi
 
   pub branches : (k p : ℕ) (a : W) (st fs : List W) (n : ℕ) → p + k ≤ end → branched end (plus k) (state p a st fs n) ≡ Ok (state (p + k) a st fs (n + 1))
   branches k p a st fs n h = ap (λ o. went o (state p a st fs n)) (cond-true _ _ _ (le-leb (p + k) end h))
+
+module _ {W : Type 0} {ops : Ops W} {end : ℕ} {get : ℕ → Option (Instruction × ℕ)} {past : (p : ℕ) → end ≤ p → get p ≡ None} {k p n q : ℕ} {a v : W} {st fs u gs : List W} where
+  pub comes_join : {l r : ℕ} {w : W} {x hs : List W} → Comes ops end get past k p a st fs n q v u gs → Comes ops end get past l q v u gs (n + k) r w x hs → Comes ops end get past (k + l) p a st fs n r w x hs
+  comes_join {l} {r} {w} {x} {hs} c d =
+      record { reaches = rw (← add_assoc n k l) (reaches_join ops end get past k l (state p a st fs n) (state q v u gs (n + k)) (state r w x hs (n + k + l)) c.reaches d.reaches) }
+
+  -- one step more
+  pub comes_on : {r : ℕ} {w : W} {x hs : List W} → Comes ops end get past k p a st fs n q v u gs → step ops end get (state q v u gs (n + k)) ≡ Ok (state r w x hs (n + k + 1)) → Comes ops end get past (k + 1) p a st fs n r w x hs
+  comes_on {r} {w} {x} {hs} c e = comes_join c (record { reaches = (state r w x hs (n + k + 1), (e, refl)) })
