@@ -94,13 +94,13 @@ module _ {W : Type 0} (ops : Ops W) (law : Lawful ops) (end : ℕ) (get : ℕ �
   Sim p acc st fs n len sz pl good (over i) = (i < sz) × Stopped p acc st fs n len (p + pl i)
   Sim p acc st fs n len sz pl good unbound = ⊥
 
-  stopped_so : (p : ℕ) (acc : W) (st fs : List W) (n len len' q q' : ℕ) → len ≤ len' → q ≡ q' → Stopped p acc st fs n len q → Stopped p acc st fs n len' q'
-  stopped_so p acc st fs n len len' q q' le e h =
+  stopped_so : {p n len len' q q' : ℕ} {acc : W} {st fs : List W} → Stopped p acc st fs n len q → len ≤ len' → q ≡ q' → Stopped p acc st fs n len' q'
+  stopped_so h le e =
       rw (← e) (record { steps = h.steps; few = omega (arith, h.few); hand = h.hand; above = h.above; after = h.after; room = h.room; comes = h.comes; stops = h.stops })
 
-  stopped_after : (k p : ℕ) (acc : W) (st fs : List W) (n r : ℕ) (x : W) (ws gs : List W) (len len' q q' : ℕ) → k + len ≤ len' → q ≡ q' → length ws + length gs ≡ length fs →
-      Comes ops end get past k p acc st fs n r x (ws ++ st) gs → Stopped r x (ws ++ st) gs (n + k) len q → Stopped p acc st fs n len' q'
-  stopped_after k p acc st fs n r x ws gs len len' q q' le e room c h =
+  stopped_after : {k p n r len len' q q' : ℕ} {acc x : W} {st fs gs : List W} (ws : List W) → Comes ops end get past k p acc st fs n r x (ws ++ st) gs → Stopped r x (ws ++ st) gs (n + k) len q →
+      k + len ≤ len' → q ≡ q' → length ws + length gs ≡ length fs → Stopped p acc st fs n len' q'
+  stopped_after {k} {n = n} ws c h le e room =
       rw (← e)
       (record {
         steps = k + h.steps;
@@ -124,10 +124,10 @@ module _ {W : Type 0} (ops : Ops W) (law : Lawful ops) (end : ℕ) (get : ℕ �
   ends_of good q x y st fs m i None g e = (refl, e)
   ends_of good q x y st fs m i (Some v) g e = (g v refl, e)
 
-  last : (p : ℕ) (acc : W) (st fs : List W) (n len sz sz' q : ℕ) (pl : ℕ → ℕ) (good : W → Type 0) (k : ℕ) (x y : W) (gs : List W) (w : Worth W) →
-      k < len → q + 1 ≡ p + len → sz < sz' → q ≡ p + pl sz → suc (length gs) ≡ length fs →
-      Comes ops end get past k p acc st fs n q y (x ∷ st) gs → Ends good q x y st gs (n + k) sz w → Sim p acc st fs n len sz' pl good w
-  last p acc st fs n len sz sz' q pl good k x y gs (word v) few to lt at room c e =
+  last : {p n len sz sz' q k : ℕ} {acc x y : W} {st fs gs : List W} (pl : ℕ → ℕ) (good : W → Type 0) (w : Worth W) →
+      Comes ops end get past k p acc st fs n q y (x ∷ st) gs → Ends good q x y st gs (n + k) sz w →
+      k < len → q + 1 ≡ p + len → sz < sz' → q ≡ p + pl sz → suc (length gs) ≡ length fs → Sim p acc st fs n len sz' pl good w
+  last {k = k} {x = x} {gs = gs} pl good (word v) c e few to lt at room =
       record {
         steps = k + 1;
         few = omega arith;
@@ -136,10 +136,10 @@ module _ {W : Type 0} (ops : Ops W) (law : Lawful ops) (end : ℕ) (get : ℕ �
         fits = e.0;
         comes = rw (← to) (comes_on c e.1);
       }
-  last p acc st fs n len sz sz' q pl good k x y gs (over j) few to lt at room c e =
+  last {p} {q = q} {k = k} {x = x} {y} {gs = gs} pl good (over j) c e few to lt at room =
       let z : q ≡ p + pl j = at ∙ ap (λ i. p + pl i) (sym e.0) in
       (omega (arith, e.0), rw (← z) (record { steps = k; few = few; hand = y; above = x ∷ []; after = gs; room = omega (arith, room); comes = c; stops = e.1 }))
-  last p acc st fs n len sz sz' q pl good k x y gs unbound few to lt at room c e = elim e [ ]
+  last pl good unbound c e few to lt at room = elim e [ ]
 
   module _ (p : ℕ) (acc : W) (st fs : List W) (n la lb sa sb : ℕ) (pa pb pl : ℕ → ℕ) (at : Two la lb sa sb pa pb pl) (fa fb good : W → Type 0) where
     two_second : (k : ℕ) (x : W) (gs : List W) (w : Worth W) (f : W → Worth W) → k ≤ la + 1 → suc (length gs) ≡ length fs →
@@ -148,12 +148,9 @@ module _ {W : Type 0} (ops : Ops W) (law : Lawful ops) (end : ℕ) (get : ℕ �
         ((y : W) (m : ℕ) (hs : List W) → fb y → Ends good (p + la + 1 + lb) x y st hs m (sa + sb) (f y)) →
         Sim p acc st fs n (la + 1 + lb + 1) (sa + sb + 1) pl good (then sa w f)
     two_second k x gs (word y) f few room c h e =
-        last p acc st fs n (la + 1 + lb + 1) (sa + sb) (sa + sb + 1) (p + la + 1 + lb) pl good (k + h.steps) x y h.after (f y)
-        (omega (arith, h.few)) (omega arith) (omega arith) (omega (arith, at.last)) (omega (arith, h.room, room))
-        (comes_join c h.comes) (e y (n + (k + h.steps)) h.after h.fits)
+        last pl good (f y) (comes_join c h.comes) (e y (n + (k + h.steps)) h.after h.fits) (omega (arith, h.few)) (omega arith) (omega arith) (omega (arith, at.last)) (omega (arith, h.room, room))
     two_second k x gs (over i) f few room c (lt, h) e =
-        let q : p + la + 1 + pb i ≡ p + pl (sa + i) = omega (arith, at.other i lt) in
-        (omega arith, stopped_after k p acc st fs n (p + la + 1) x (x ∷ []) gs lb (la + 1 + lb + 1) (p + la + 1 + pb i) (p + pl (sa + i)) (omega arith) q (omega (arith, room)) c h)
+        (omega arith, stopped_after (x ∷ []) c h (omega arith) (omega (arith, at.other i lt)) (omega (arith, room)))
     two_second k x gs unbound f few room c h e = elim h [ ]
 
     -- a node of two parts: the word of the first is pushed, and an instruction joins it with that of the second
@@ -170,8 +167,7 @@ module _ {W : Type 0} (ops : Ops W) (law : Lawful ops) (end : ℕ) (get : ℕ �
         (comes_on h.comes (pushes ops end get past (p + la) x st h.after (n + k) push r))
         (second x (n + (k + 1)) (drop 1 h.after) h.fits l) (λ y m gs. e x y m gs h.fits)
     two (over i) f g push some (lt, h) second e =
-        let z : p + pa i ≡ p + pl i = omega (arith, at.one i lt) in
-        (omega arith, stopped_so p acc st fs n la (la + 1 + lb + 1) (p + pa i) (p + pl i) (omega arith) z h)
+        (omega arith, stopped_so h (omega arith) (omega (arith, at.one i lt)))
     two unbound f g push some h second e = elim h [ ]
 
   module _ (p : ℕ) (acc : W) (st fs : List W) (n la sa : ℕ) (pa pl : ℕ → ℕ) (same : (i : ℕ) → i < sa → pl i ≡ pa i) (own : pl sa ≡ la + 2) (fa good : W → Type 0) where
@@ -187,11 +183,9 @@ module _ {W : Type 0} (ops : Ops W) (law : Lawful ops) (end : ℕ) (get : ℕ �
         let l : suc (length (drop 1 h.after)) ≡ length fs = omega (arith, length-drop 1 h.after, h.room) in
         let gs = drop 1 h.after in
         let d = comes_on h.comes (pushes ops end get past (p + la) x st h.after (n + k) push r) in
-        last p acc st fs n (la + 3) sa (sa + 1) (p + la + 1 + 1) pl good (k + 1 + 1) x c gs (g x)
-        (omega (arith, h.few)) (omega arith) (omega arith) (omega (arith, own)) l (comes_on d (sets x (x ∷ st) gs (n + (k + 1)))) (e x (n + (k + 1 + 1)) gs h.fits)
+        last pl good (g x) (comes_on d (sets x (x ∷ st) gs (n + (k + 1)))) (e x (n + (k + 1 + 1)) gs h.fits) (omega (arith, h.few)) (omega arith) (omega arith) (omega (arith, own)) l
     one (over i) g c push sets some (lt, h) e =
-        let z : p + pa i ≡ p + pl i = omega (arith, same i lt) in
-        (omega arith, stopped_so p acc st fs n la (la + 3) (p + pa i) (p + pl i) (omega arith) z h)
+        (omega arith, stopped_so h (omega arith) (omega (arith, same i lt)))
     one unbound g c push sets some h e = elim h [ ]
 
   module _ (p : ℕ) (acc : W) (st fs : List W) (n lc la lb sc sa sb : ℕ) (pc pa pb pl : ℕ → ℕ) (at : Three lc lb sc sa sb pc pa pb pl) (fc good : W → Type 0) where
@@ -208,8 +202,7 @@ module _ {W : Type 0} (ops : Ops W) (law : Lawful ops) (end : ℕ) (get : ℕ �
           comes = rw (← to) (comes_join c h.comes);
         }
     chosen k x gs (over i) few room c (lt, h) =
-        let q : p + lc + 1 + lb + 1 + pa i ≡ p + pl (sc + i) = omega (arith, at.taken i lt) in
-        (omega arith, stopped_after k p acc st fs n (p + lc + 1 + lb + 1) x [] gs la (lc + 1 + lb + 1 + la) (p + lc + 1 + lb + 1 + pa i) (p + pl (sc + i)) (omega arith) q (omega (arith, room)) c h)
+        (omega arith, stopped_after [] c h (omega arith) (omega (arith, at.taken i lt)) (omega (arith, room)))
     chosen k x gs unbound few room c h = elim h [ ]
 
     otherwise : (k : ℕ) (x : W) (gs : List W) (w : Worth W) → k ≤ lc + 1 → length gs ≡ length fs → Comes ops end get past k p acc st fs n (p + lc + 1) x st gs →
@@ -225,8 +218,7 @@ module _ {W : Type 0} (ops : Ops W) (law : Lawful ops) (end : ℕ) (get : ℕ �
           comes = comes_on (comes_join c h.comes) (j v h.after (n + (k + h.steps)));
         }
     otherwise k x gs (over i) few room c j (lt, h) =
-        let q : p + lc + 1 + pb i ≡ p + pl (sc + sa + i) = omega (arith, at.left i lt) in
-        (omega arith, stopped_after k p acc st fs n (p + lc + 1) x [] gs lb (lc + 1 + lb + 1 + la) (p + lc + 1 + pb i) (p + pl (sc + sa + i)) (omega arith) q (omega (arith, room)) c h)
+        (omega arith, stopped_after [] c h (omega arith) (omega (arith, at.left i lt)) (omega (arith, room)))
     otherwise k x gs unbound few room c j h = elim h [ ]
 
     module _ (test : get (p + lc) ≡ Some (Branchif (plus (lb + 2)), p + lc + 1)) (jump : get (p + lc + 1 + lb) ≡ Some (Branch (plus (la + 1)), p + lc + 1 + lb + 1))
@@ -255,8 +247,7 @@ module _ {W : Type 0} (ops : Ops W) (law : Lawful ops) (end : ℕ) (get : ℕ �
           Sim p acc st fs n (lc + 1 + lb + 1 + la) (sc + sa + sb + 1) pl good (first w (λ x. cond (holds ops x) (then sc wa word) (then (sc + sa) wb word)))
       three (word x) h = three_by x h.steps h.after h.few h.room h.comes (ops.same x (naught ops)) refl
       three (over i) (lt, h) =
-          let z : p + pc i ≡ p + pl i = omega (arith, at.test i lt) in
-          (omega arith, stopped_so p acc st fs n lc (lc + 1 + lb + 1 + la) (p + pc i) (p + pl i) (omega arith) z h)
+          (omega arith, stopped_so h (omega arith) (omega (arith, at.test i lt)))
       three unbound h = elim h [ ]
 
   constant : (p : ℕ) (acc : W) (st fs : List W) (n : ℕ) (good : W → Type 0) (v : W) → good v → step ops end get (state p acc st fs n) ≡ Ok (state (p + 1) v st fs (n + 1)) → Gave p acc st fs n 1 good v
