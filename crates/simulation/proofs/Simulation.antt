@@ -141,7 +141,7 @@ module _ {W : Type 0} (ops : Ops W) (law : Lawful ops) (end : ℕ) (get : ℕ �
       (omega (arith, e.0), rw (← z) (record { steps = k; few = few; hand = y; above = x ∷ []; after = gs; room = omega (arith, room); comes = c; stops = e.1 }))
   last pl good unbound c e few to lt at room = elim e [ ]
 
-  module _ (p : ℕ) (acc : W) (st fs : List W) (n la lb sa sb : ℕ) (pa pb pl : ℕ → ℕ) (at : Two la lb sa sb pa pb pl) (fa fb good : W → Type 0) where
+  module _ (p : ℕ) (acc : W) (st fs : List W) (n : ℕ) {la lb sa sb : ℕ} {pa pb pl : ℕ → ℕ} (at : Two la lb sa sb pa pb pl) (fa fb good : W → Type 0) where
     two_second : (k : ℕ) (x : W) (gs : List W) (w : Worth W) (f : W → Worth W) → k ≤ la + 1 → suc (length gs) ≡ length fs →
         Comes ops end get past k p acc st fs n (p + la + 1) x (x ∷ st) gs →
         Sim (p + la + 1) x (x ∷ st) gs (n + k) lb sb pb fb w →
@@ -170,7 +170,7 @@ module _ {W : Type 0} (ops : Ops W) (law : Lawful ops) (end : ℕ) (get : ℕ �
         (omega arith, stopped_so h (omega arith) (omega (arith, at.one i lt)))
     two unbound f g push some h second e = elim h [ ]
 
-  module _ (p : ℕ) (acc : W) (st fs : List W) (n la sa : ℕ) (pa pl : ℕ → ℕ) (same : (i : ℕ) → i < sa → pl i ≡ pa i) (own : pl sa ≡ la + 2) (fa good : W → Type 0) where
+  module _ (p : ℕ) (acc : W) (st fs : List W) (n la : ℕ) {sa : ℕ} (pa pl : ℕ → ℕ) (same : (i : ℕ) → i < sa → pl i ≡ pa i) (own : pl sa ≡ la + 2) (fa good : W → Type 0) where
     -- a node of one part: its word is pushed, and an instruction joins it with a constant
     one : (w : Worth W) (g : W → Worth W) (c : W) → get (p + la) ≡ Some (Push, p + la + 1) →
         ((x : W) (su gs : List W) (m : ℕ) → step ops end get (state (p + la + 1) x su gs m) ≡ Ok (state (p + la + 1 + 1) c su gs (m + 1))) → 0 < length fs →
@@ -188,7 +188,7 @@ module _ {W : Type 0} (ops : Ops W) (law : Lawful ops) (end : ℕ) (get : ℕ �
         (omega arith, stopped_so h (omega arith) (omega (arith, same i lt)))
     one unbound g c push sets some h e = elim h [ ]
 
-  module _ (p : ℕ) (acc : W) (st fs : List W) (n lc la lb sc sa sb : ℕ) (pc pa pb pl : ℕ → ℕ) (at : Three lc lb sc sa sb pc pa pb pl) (fc good : W → Type 0) where
+  module _ (p : ℕ) (acc : W) (st fs : List W) (n la : ℕ) {lc lb sc sa sb : ℕ} {pc pa pb pl : ℕ → ℕ} (at : Three lc lb sc sa sb pc pa pb pl) (fc good : W → Type 0) where
     chosen : (k : ℕ) (x : W) (gs : List W) (w : Worth W) → k ≤ lc + 1 → length gs ≡ length fs → Comes ops end get past k p acc st fs n (p + lc + 1 + lb + 1) x st gs →
         Sim (p + lc + 1 + lb + 1) x st gs (n + k) la sa pa good w → Sim p acc st fs n (lc + 1 + lb + 1 + la) (sc + sa + sb + 1) pl good (then sc w word)
     chosen k x gs (word v) few room c h =
@@ -275,7 +275,7 @@ module _ {W : Type 0} (ops : Ops W) (law : Lawful ops) (end : ℕ) (get : ℕ �
   simulated (prefix o pos t) s env p acc st fs n a c w g r =
       let ca = split_code get t s (Push ∷ Consti (prefix_row_of o).constant ∷ (prefix_row_of o).instruction ∷ []) p c in
       rw w.1
-      (one p acc st fs n (long t) (size t) (placed t) (placed (prefix o pos t)) (λ i h. cond-true _ _ _ (lt-ltb i (size t) h)) (cond-false _ _ _ (le-ltb (size t) (size t) (omega arith)))
+      (one p acc st fs n (long t) (placed t) (placed (prefix o pos t)) (λ i h. cond-true _ _ _ (lt-ltb i (size t) h)) (cond-false _ _ _ (le-ltb (size t) (size t) (omega arith)))
       (Fits ops (prefix_row_of o).takes) (Fits ops (prefix_row_of o).gives)
       (worth ops t (values s st)) (λ x. gives (size t) (turned ops o x)) (ops.number (prefix_row_of o).constant) ca.1.0
       (λ x su gs m. step_at ops end get past (Consti (prefix_row_of o).constant) (p + long t + 1) x su gs m ca.1.1.0) (omega arith)
@@ -286,7 +286,7 @@ module _ {W : Type 0} (ops : Ops W) (law : Lawful ops) (end : ℕ) (get : ℕ �
       let ca = split_code get t s (Push ∷ (code (waiting ∷ s) u ++ (row_of o).instruction ∷ [])) p c in
       let cb = split_code get u (waiting ∷ s) ((row_of o).instruction ∷ []) (p + long t + 1) ca.1.1 in
       rw w.1.1
-      (two p acc st fs n (long t) (long u) (size t) (size u) (placed t) (placed u) (placed (binary o pos t u)) (two_places (long t) (long u) (size t) (size u) (placed t) (placed u))
+      (two p acc st fs n (two_places (long t) (long u) (size t) (size u) (placed t) (placed u))
       (Fits ops (row_of o).takes) (Fits ops (row_of o).takes) (Fits ops (row_of o).gives)
       (worth ops t (values s st)) (λ x. worth ops u (values s st)) (λ x y. gives (size t + size u) (joined ops o x y)) ca.1.0 (omega arith)
       (simulated t s env p acc st fs n (row_of o).takes ca.0 w.0 g (omega arith))
@@ -297,8 +297,7 @@ module _ {W : Type 0} (ops : Ops W) (law : Lawful ops) (end : ℕ) (get : ℕ �
       let ct = split_code get t s (Branchif (plus (long v + 2)) ∷ (code s v ++ Branch (plus (long u + 1)) ∷ code s u)) p c in
       let cv = split_code get v s (Branch (plus (long u + 1)) ∷ code s u) (p + long t + 1) ct.1.1 in
       let f = code_fits get end past s u (p + long t + 1 + long v + 1) cv.1.1 in
-      three p acc st fs n (long t) (long u) (long v) (size t) (size u) (size v) (placed t) (placed u) (placed v) (placed (choose pos t u v))
-      (three_places (long t) (long v) (size t) (size u) (size v) (placed t) (placed u) (placed v)) (Fits ops Truth) (Fits ops a)
+      three p acc st fs n (long u) (three_places (long t) (long v) (size t) (size u) (size v) (placed t) (placed u) (placed v)) (Fits ops Truth) (Fits ops a)
       ct.1.0 cv.1.0 (omega arith) (worth ops u (values s st)) (worth ops v (values s st))
       (λ x m gs l. simulated u s env (p + long t + 1 + long v + 1) x st gs m a cv.1.1 w.1.0 g (omega arith))
       (λ x m gs l. simulated v s env (p + long t + 1) x st gs m a cv.0 w.1.1 g (omega arith))
@@ -307,7 +306,7 @@ module _ {W : Type 0} (ops : Ops W) (law : Lawful ops) (end : ℕ) (get : ℕ �
       let ca = split_code get t s (Push ∷ (code (bound ∷ s) u ++ Popi 1 ∷ [])) p c in
       let cb = split_code get u (bound ∷ s) (Popi 1 ∷ []) (p + long t + 1) ca.1.1 in
       let b = w.0 in
-      two p acc st fs n (long t) (long u) (size t) (size u) (placed t) (placed u) (placed (bind pos t u)) (two_places (long t) (long u) (size t) (size u) (placed t) (placed u))
+      two p acc st fs n (two_places (long t) (long u) (size t) (size u) (placed t) (placed u))
       (Fits ops b) (Fits ops a) (Fits ops a)
       (worth ops t (values s st)) (λ x. worth ops u (x ∷ values s st)) (λ x y. word y) ca.1.0 (omega arith)
       (simulated t s env p acc st fs n b ca.0 w.1.0 g (omega arith))
