@@ -25,27 +25,17 @@ says ops t a st fs unbound e h = elim h [ ]
 leaves : {W : Type 0} (ops : Ops W) (t : Tree) (a : ValueType) (st fs : List W) (w : Worth W) (e : Ended W) → Closes ops t a st fs w e →
     (more : List W) × ((left e ≡ reverse st ++ more) × (length more ≡ length fs))
 leaves ops t a st fs (word v) e (k, after, (le, room, fits, f)) = (after, (ap left f, room))
-leaves ops t a st fs (over i) e (k, hand, above, after, (lt, few, room, f)) = (
-  reverse above ++ after,
-  (
-    ap left f ∙ ap (λ z. z ++ after) (reverse-append above st) ∙ append_assoc (reverse st) (reverse above) after,
-    length-append (reverse above) after ∙ ap (λ k. k + length after) (length-reverse above) ∙ room,
-  ),
-)
+leaves ops t a st fs (over i) e (k, hand, above, after, (lt, few, room, f)) = (reverse above ++ after, (simp (f, reverse-append, append_assoc), simp (length-append, length-reverse) room))
 leaves ops t a st fs unbound e h = elim h [ ]
 
 words_only : {W : Type 0} (ops : Ops W) (t : Tree) (a : ValueType) (w : Worth W) (r : Result (Finished W) Halt) → Says ops t a w r → (f : Finished W) → r ≡ Ok f → w ≡ word f.word
-words_only {W} ops t a (word v) r (k, (le, fits, e)) f g =
-    let p : ◌≡◌ {A = Finished W} (record { word = v; steps = k }) f = cc in
-    ap (λ (z : Finished W). word z.word) p
+words_only ops t a (word v) r (k, (le, fits, e)) f g = cc
 words_only ops t a (over i) r (k, (lt, few, e)) f g = cc
 words_only ops t a unbound r h f g = elim h [ ]
 
 refusals_only : {W : Type 0} (ops : Ops W) (t : Tree) (a : ValueType) (w : Worth W) (r : Result (Finished W) Halt) → Says ops t a w r → (h : Halt) → r ≡ Err h → (i : ℕ) × ((w ≡ over i) × (h.refusal ≡ Overflow (placed t i)))
 refusals_only ops t a (word v) r (k, (le, fits, e)) h g = cc
-refusals_only ops t a (over i) r (k, (lt, few, e)) h g =
-    let p : ◌≡◌ {A = Halt} h (record { refusal = Overflow (placed t i); steps = k }) = cc in
-    (i, (refl, ap (λ (z : Halt). z.refusal) p))
+refusals_only ops t a (over i) r (k, (lt, few, e)) h g = (i, (refl, cc))
 refusals_only ops t a unbound r s h g = elim s [ ]
 
 pub answers : {W : Type 0} (ops : Ops W) → AnswersIn ops
@@ -63,10 +53,7 @@ answers {W} ops law t a typed xs base height budget eight room enough =
     let s : Says ops t a w (answered ops (words_of t) xs base height budget) = subst (λ z. Says ops t a w z) (sym r) (says ops t a st fs w e c) in
     let l = leaves ops t a st fs w e c in
     let all : stack_after ops (words_of t) xs base height budget ≡ take top xs ++ l.0 =
-    cond-false _ _ _ no ∙ ap (λ z. take base xs ++ z) (l.1.0 ∙ ap (λ z. z ++ l.0) (reverse-reverse (drop base (take top xs))))
-    ∙ sym (append_assoc (take base xs) (drop base (take top xs)) l.0)
-    ∙ ap (λ z. (z ++ drop base (take top xs)) ++ l.0) (sym (take-take base top xs (omega arith)))
-    ∙ ap (λ z. z ++ l.0) (take-append-drop base (take top xs)) in
+    cond-false _ _ _ no ∙ rw (l.1.0, reverse-reverse, ← append_assoc (take base xs) (drop base (take top xs)) l.0, ← take-take base top xs (omega arith), take-append-drop) in
     let len : length (take top xs) ≡ top = length-take-le top xs (omega arith) in
     record {
       says = s;
@@ -84,7 +71,7 @@ lawful ops means on sound =
     by : (b : Bool) → ops.same (unit ops) (naught ops) ≡ b → b ≡ false
     by false e = refl
     by true e =
-        let f : means (unit ops) ≡ means (naught ops) = (sound.told (unit ops) (naught ops)).0 e in
+        let f = (sound.told (unit ops) (naught ops)).0 e in
         let g : pos 1 ≡ pos 0 = sym sound.one ∙ f ∙ sound.zero in
         cc
 
