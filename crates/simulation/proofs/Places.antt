@@ -53,15 +53,6 @@ length-code s (bind p t u) =
     let f = length-code (bound ∷ s) u in
     simp length-append (omega arith)
 
-pub long_some : (t : Tree) → 0 < long t
-long_some (number k p) = omega arith
-long_some (truth b p) = omega arith
-long_some (name k p) = omega arith
-long_some (prefix o p t) = omega arith
-long_some (binary o p t u) = omega arith
-long_some (choose p t u v) = omega arith
-long_some (bind p t u) = omega arith
-
 -- these instructions lie at the place p
 abbrev pub CodeAt : (ℕ → Option (Instruction × ℕ)) → ℕ → List Instruction → Type 0
 CodeAt get p [] = Unit {0}
@@ -88,17 +79,12 @@ before_end get end past x p q f = by (cases_lt p end)
     by (inl lt) = lt
     by (inr ge) = let e = past p ge in cc
 
-pub at_fits : (get : ℕ → Option (Instruction × ℕ)) (end : ℕ) → ((p : ℕ) → end ≤ p → get p ≡ None) → (xs : List Instruction) (p : ℕ) → 0 < length xs → CodeAt get p xs → p + length xs ≤ end
-at_fits get end past [] p h c = absurd (omega arith)
-at_fits get end past (x ∷ []) p h c = let r = before_end get end past x p (p + 1) c.0 in omega arith
-at_fits get end past (x ∷ (y ∷ xs)) p h c = let r = at_fits get end past (y ∷ xs) (p + 1) (omega arith) c.1 in omega arith
+at_fits : (get : ℕ → Option (Instruction × ℕ)) (end : ℕ) → ((p : ℕ) → end ≤ p → get p ≡ None) → (x : Instruction) (xs : List Instruction) (p : ℕ) → CodeAt get p (x ∷ xs) → p + 1 + length xs ≤ end
+at_fits get end past x [] p c = let r = before_end get end past x p (p + 1) c.0 in omega arith
+at_fits get end past x (y ∷ xs) p c = let r = at_fits get end past y xs (p + 1) c.1 in omega arith
 
-pub code_fits : (get : ℕ → Option (Instruction × ℕ)) (end : ℕ) → ((p : ℕ) → end ≤ p → get p ≡ None) → (s : List Slot) (t : Tree) (p : ℕ) → CodeAt get p (code s t) → p + long t ≤ end
-code_fits get end past s t p c =
-    let e = length-code s t in
-    let some : 0 < length (code s t) = omega (arith, long_some t) in
-    let f = at_fits get end past (code s t) p some c in
-    omega arith
+pub code_fits : (get : ℕ → Option (Instruction × ℕ)) (end : ℕ) → ((p : ℕ) → end ≤ p → get p ≡ None) → (x : Instruction) (s : List Slot) (t : Tree) (p : ℕ) → CodeAt get p (x ∷ code s t) → p + 1 + long t ≤ end
+code_fits get end past x s t p c = rw length-code at (at_fits get end past x (code s t) p c)
 
 -- the words of instructions, read from the list of them
 code_stands_after : (ws : List Word) (xs : List Instruction) → CodeAt (fetch (ws ++ map written xs)) (length ws) xs
