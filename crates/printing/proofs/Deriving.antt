@@ -48,7 +48,7 @@ combined o k d p r ws vs t u m w =
     let x : ℕ = reach p ws in
     record {
       tree = binary o x m.tree w.tree;
-      same = let f = m.same in let g = w.same in cc;
+      same = cc (m.same, w.same);
       good = good_append ws (operator_word o ∷ vs) m.good ((reads_operator o).good, w.good);
       derived =
           rw lexed_append
@@ -65,7 +65,7 @@ chosen k d p r ws vs us t u v m w z =
     let y : ℕ = reach (x + 4 + 1) vs in
     record {
       tree = choose p m.tree w.tree z.tree;
-      same = let f = m.same in let g = w.same in let j = z.same in cc;
+      same = cc (m.same, w.same, z.same);
       good = (
         (fixed _ _ If (λ rest. refl)).good,
         good_append ws (codes "then" ∷ (vs ++ codes "else" ∷ us)) m.good ((fixed _ _ Then (λ rest. refl)).good, good_append vs (codes "else" ∷ us) w.good ((fixed _ _ Else (λ rest. refl)).good, z.good)),
@@ -85,7 +85,7 @@ bound k d p r ws vs t u g m w =
     let y : ℕ = reach (c + 1 + 1) ws in
     record {
       tree = bind p m.tree w.tree;
-      same = let f = m.same in let j = w.same in cc;
+      same = cc (m.same, w.same);
       good = (
         (fixed _ _ Let (λ rest. refl)).good,
         (g.good, ((reads_operator Equal).good, good_append ws (codes "in" ∷ vs) m.good ((fixed _ _ In (λ rest. refl)).good, w.good))),
@@ -140,10 +140,10 @@ size_unplaced : (t : Tree) → size (unplaced t) ≡ size t
 size_unplaced (number a p) = refl
 size_unplaced (truth b p) = refl
 size_unplaced (name i p) = refl
-size_unplaced (prefix o p t) = let f = size_unplaced t in omega arith
-size_unplaced (binary o p t u) = let f = size_unplaced t in let g = size_unplaced u in omega arith
-size_unplaced (choose p t u v) = let f = size_unplaced t in let g = size_unplaced u in let h = size_unplaced v in omega arith
-size_unplaced (bind p t u) = let f = size_unplaced t in let g = size_unplaced u in omega arith
+size_unplaced (prefix o p t) = simp (size_unplaced t)
+size_unplaced (binary o p t u) = simp (size_unplaced t, size_unplaced u)
+size_unplaced (choose p t u v) = simp (size_unplaced t, size_unplaced u, size_unplaced v)
+size_unplaced (bind p t u) = simp (size_unplaced t, size_unplaced u)
 
 pub reads_back : ReadsBack
 reads_back room t h =
