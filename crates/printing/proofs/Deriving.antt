@@ -42,9 +42,9 @@ wrapped false k (suc d) p n ws t h f =
     }
 
 -- two operands of an operator
-combined : (o : Operator) (k d p r : ℕ) (ws vs : List (List ℕ)) (t u : Tree) → Made 6 k d p ws t → Made 6 k d (reach p ws + length (operator_word o) + 1) vs u →
+combined : {k d p r : ℕ} {ws vs : List (List ℕ)} {t u : Tree} (o : Operator) → Made 6 k d p ws t → Made 6 k d (reach p ws + length (operator_word o) + 1) vs u →
     Made 0 k d p (ws ++ operator_word o ∷ vs) (binary o r t u)
-combined o k d p r ws vs t u m w =
+combined {p = p} {ws = ws} {vs} o m w =
     let x : ℕ = reach p ws in
     record {
       tree = binary o x m.tree w.tree;
@@ -57,10 +57,10 @@ combined o k d p r ws vs t u m w =
     }
 
 -- an if of three operands
-chosen : (k d p r : ℕ) (ws vs us : List (List ℕ)) (t u v : Tree) → Made 6 k d (p + 2 + 1) ws t → Made 6 k d (reach (p + 2 + 1) ws + 4 + 1) vs u →
+chosen : {k d p r : ℕ} {ws vs us : List (List ℕ)} {t u v : Tree} → Made 6 k d (p + 2 + 1) ws t → Made 6 k d (reach (p + 2 + 1) ws + 4 + 1) vs u →
     Made 6 k d (reach (reach (p + 2 + 1) ws + 4 + 1) vs + 4 + 1) us v →
     Made 0 k (suc d) p (codes "if" ∷ (ws ++ codes "then" ∷ (vs ++ codes "else" ∷ us))) (choose r t u v)
-chosen k d p r ws vs us t u v m w z =
+chosen {p = p} {ws = ws} {vs} {us} m w z =
     let x : ℕ = reach (p + 2 + 1) ws in
     let y : ℕ = reach (x + 4 + 1) vs in
     record {
@@ -76,10 +76,10 @@ chosen k d p r ws vs us t u v m w z =
     }
 
 -- a let of two operands
-bound : (k d p r : ℕ) (ws vs : List (List ℕ)) (t u : Tree) → Reads (let_name k) Name → Made 6 k d (p + 3 + 1 + length (let_name k) + 1 + 1 + 1) ws t →
+bound : {k d p r : ℕ} {ws vs : List (List ℕ)} {t u : Tree} → Reads (let_name k) Name → Made 6 k d (p + 3 + 1 + length (let_name k) + 1 + 1 + 1) ws t →
     Made 6 (suc k) d (reach (p + 3 + 1 + length (let_name k) + 1 + 1 + 1) ws + 2 + 1) vs u →
     Made 0 k (suc d) p (codes "let" ∷ let_name k ∷ codes "=" ∷ (ws ++ codes "in" ∷ vs)) (bind r t u)
-bound k d p r ws vs t u g m w =
+bound {k} {p = p} {ws = ws} {vs} g m w =
     let a : ℕ = p + 3 + 1 in
     let c : ℕ = a + length (let_name k) + 1 in
     let y : ℕ = reach (c + 1 + 1) ws in
@@ -115,26 +115,17 @@ made (prefix o r t) n k (suc d) p e b s h l =
       derived = lower 6 0 (omega arith) (prefixed (lex p (prefix_word o)) o (reads_prefix o).kind m.derived);
     }
 made (binary o r t u) n k d p e b s h l =
-    let m = wrapped (leaf t) k d p (nested t) (words k t) t (omega arith) (λ c q f i. made t n k c q e b.0 s.0 f (omega arith)) in
-    let x : ℕ = reach p (enclosed (leaf t) (words k t)) in
-    let w = wrapped (leaf u) k d (x + length (operator_word o) + 1) (nested u) (words k u) u (omega arith) (λ c q f i. made u n k c q e b.1 s.1 f (omega arith)) in
-    combined o k d p r (enclosed (leaf t) (words k t)) (enclosed (leaf u) (words k u)) t u m w
+    combined o (wrapped (leaf t) k d _ (nested t) (words k t) t (omega arith) (λ c q f i. made t n k c q e b.0 s.0 f (omega arith)))
+    (wrapped (leaf u) k d _ (nested u) (words k u) u (omega arith) (λ c q f i. made u n k c q e b.1 s.1 f (omega arith)))
 made (choose r t u v) n k zero p e b s h l = absurd (omega arith)
 made (choose r t u v) n k (suc d) p e b s h l =
-    let m = wrapped (leaf t) k d (p + 2 + 1) (nested t) (words k t) t (omega arith) (λ c q f i. made t n k c q e b.0 s.0 f (omega arith)) in
-    let x : ℕ = reach (p + 2 + 1) (enclosed (leaf t) (words k t)) in
-    let w = wrapped (leaf u) k d (x + 4 + 1) (nested u) (words k u) u (omega arith) (λ c q f i. made u n k c q e b.1.0 s.1.0 f (omega arith)) in
-    let y : ℕ = reach (x + 4 + 1) (enclosed (leaf u) (words k u)) in
-    let z = wrapped (leaf v) k d (y + 4 + 1) (nested v) (words k v) v (omega arith) (λ c q f i. made v n k c q e b.1.1 s.1.1 f (omega arith)) in
-    chosen k d p r (enclosed (leaf t) (words k t)) (enclosed (leaf u) (words k u)) (enclosed (leaf v) (words k v)) t u v m w z
+    chosen (wrapped (leaf t) k d _ (nested t) (words k t) t (omega arith) (λ c q f i. made t n k c q e b.0 s.0 f (omega arith)))
+    (wrapped (leaf u) k d _ (nested u) (words k u) u (omega arith) (λ c q f i. made u n k c q e b.1.0 s.1.0 f (omega arith)))
+    (wrapped (leaf v) k d _ (nested v) (words k v) v (omega arith) (λ c q f i. made v n k c q e b.1.1 s.1.1 f (omega arith)))
 made (bind r t u) n k zero p e b s h l = absurd (omega arith)
 made (bind r t u) n k (suc d) p e b s h l =
-    let g = reads_let_name k (omega arith) in
-    let c : ℕ = p + 3 + 1 + length (let_name k) + 1 in
-    let m = wrapped (leaf t) k d (c + 1 + 1) (nested t) (words k t) t (omega arith) (λ j q f i. made t n k j q e b.0 s.0 f (omega arith)) in
-    let y : ℕ = reach (c + 1 + 1) (enclosed (leaf t) (words k t)) in
-    let w = wrapped (leaf u) (suc k) d (y + 2 + 1) (nested u) (words (suc k) u) u (omega arith) (λ j q f i. made u (n + 1) (suc k) j q (omega arith) b.1 s.1 f (omega arith)) in
-    bound k d p r (enclosed (leaf t) (words k t)) (enclosed (leaf u) (words (suc k) u)) t u g m w
+    bound (reads_let_name k (omega arith)) (wrapped (leaf t) k d _ (nested t) (words k t) t (omega arith) (λ c q f i. made t n k c q e b.0 s.0 f (omega arith)))
+    (wrapped (leaf u) (suc k) d _ (nested u) (words (suc k) u) u (omega arith) (λ c q f i. made u (n + 1) (suc k) c q (omega arith) b.1 s.1 f (omega arith)))
 
 size_unplaced : (t : Tree) → size (unplaced t) ≡ size t
 size_unplaced (number a p) = refl
