@@ -1,8 +1,8 @@
 -- What a caller is told, from the law.
-use Rattle.std.proofs.Common.{◌≡◌, ℕ, ◌+◌, ◌≤◌, Bool, true, false, ◌&&◌, ltb, List, ◌++◌, reverse, length, take, drop, ℤ, pos, Some, Ok, Err, Result, sym, refl, ap, ◌∙◌, subst, append_assoc, arith, length-append, length-drop}
+use Rattle.std.proofs.Common.{◌≡◌, ℕ, ◌+◌, ◌≤◌, false, ltb, List, ◌++◌, reverse, length, take, drop, Ok, Err, Result, sym, refl, ap, ◌∙◌, subst, append_assoc, arith, length-append, length-drop}
 use Rattle.std.proofs.lemmas.List.{reverse-append, reverse-reverse, take-append-drop, take-take, take_at, length-take-le, length-reverse}
 use Rattle.std.proofs.lemmas.Bool.{cond-false, le-ltb}
-use Rattle.arithmetic.specs.Words.{Ops, Meanings, Sound, naught, unit, truth}
+use Rattle.arithmetic.specs.Words.{Ops, naught}
 use Rattle.evaluation.specs.Worth.{Worth, word, over, unbound, worth, placed}
 use Rattle.language.specs.Code.{tall}
 use Rattle.language.specs.Tree.{Tree}
@@ -12,7 +12,7 @@ use Rattle.machine.specs.declared.outcome.Finished.{Finished}
 use Rattle.machine.specs.declared.outcome.Halt.{Halt}
 use Rattle.machine.proofs.Held.{length-held}
 use Rattle.refusal.specs.declared.Refusal.TheVariants.{Overflow}
-use Rattle.simulation.specs.Law.{Lawful, words_of, Closes}
+use Rattle.simulation.specs.Law.{words_of, Closes}
 use Rattle.simulation.specs.Answered.{Says, AnswersIn}
 use Rattle.simulation.proofs.Laws.{computes}
 
@@ -62,21 +62,3 @@ answers {W} ops law t a typed xs base height budget eight room enough =
       kept = ap (take top) all ∙ take_at (take top xs) l.0 top len;
       still = ap length all ∙ length-append (take top xs) l.0 ∙ omega (arith, len, l.1.1, length-drop top xs);
     }
-
--- the laws of an arithmetic are enough
-pub lawful : {W : Type 0} (ops : Ops W) (means : W → ℤ) (on : Meanings) → Sound means on ops → Lawful ops
-lawful ops means on sound =
-    record { zero_same = (sound.told (naught ops) (naught ops)).1 refl; one_other = by (ops.same (unit ops) (naught ops)) refl; product = times }
-  where
-    by : (b : Bool) → ops.same (unit ops) (naught ops) ≡ b → b ≡ false
-    by false e = refl
-    by true e =
-        let f = (sound.told (unit ops) (naught ops)).0 e in
-        let g : pos 1 ≡ pos 0 = sym sound.one ∙ f ∙ sound.zero in
-        cc
-
-    times : (a b : Bool) → ops.times (truth ops a) (truth ops b) ≡ Some (truth ops (a && b))
-    times true true = sound.ones
-    times true false = sound.one_zero
-    times false true = sound.zero_one
-    times false false = sound.zeros
