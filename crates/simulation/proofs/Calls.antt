@@ -1,8 +1,8 @@
 -- What a caller is told, from the law.
-use Rattle.std.proofs.Common.{◌≡◌, ℕ, ◌+◌, ◌≤◌, Bool, true, false, ◌&&◌, ltb, List, ◌++◌, reverse, length, take, drop, ℤ, pos, Some, Ok, Err, Result, sym, refl, ap, ◌∙◌, subst, append_assoc, arith, length-append, length-drop}
+use Rattle.std.proofs.Common.{◌≡◌, ℕ, ◌+◌, ◌≤◌, false, ltb, List, ◌++◌, reverse, length, take, drop, Ok, Err, Result, sym, refl, ap, ◌∙◌, subst, append_assoc, arith, length-append, length-drop}
 use Rattle.std.proofs.lemmas.List.{reverse-append, reverse-reverse, take-append-drop, take-take, take_at, length-take-le, length-reverse}
 use Rattle.std.proofs.lemmas.Bool.{cond-false, le-ltb}
-use Rattle.arithmetic.specs.Words.{Ops, Meanings, Sound, naught, unit, truth}
+use Rattle.arithmetic.specs.Words.{Ops, naught}
 use Rattle.evaluation.specs.Worth.{Worth, word, over, unbound, worth, placed}
 use Rattle.language.specs.Code.{tall}
 use Rattle.language.specs.Tree.{Tree}
@@ -12,7 +12,7 @@ use Rattle.machine.specs.declared.outcome.Finished.{Finished}
 use Rattle.machine.specs.declared.outcome.Halt.{Halt}
 use Rattle.machine.proofs.Held.{length-held}
 use Rattle.refusal.specs.declared.Refusal.TheVariants.{Overflow}
-use Rattle.simulation.specs.Law.{Lawful, words_of, Closes}
+use Rattle.simulation.specs.Law.{words_of, Closes}
 use Rattle.simulation.specs.Answered.{Says, AnswersIn}
 use Rattle.simulation.proofs.Laws.{computes}
 
@@ -25,27 +25,17 @@ says ops t a st fs unbound e h = elim h [ ]
 leaves : {W : Type 0} (ops : Ops W) (t : Tree) (a : ValueType) (st fs : List W) (w : Worth W) (e : Ended W) → Closes ops t a st fs w e →
     (more : List W) × ((left e ≡ reverse st ++ more) × (length more ≡ length fs))
 leaves ops t a st fs (word v) e (k, after, (le, room, fits, f)) = (after, (ap left f, room))
-leaves ops t a st fs (over i) e (k, hand, above, after, (lt, few, room, f)) = (
-  reverse above ++ after,
-  (
-    ap left f ∙ ap (λ z. z ++ after) (reverse-append above st) ∙ append_assoc (reverse st) (reverse above) after,
-    length-append (reverse above) after ∙ ap (λ k. k + length after) (length-reverse above) ∙ room,
-  ),
-)
+leaves ops t a st fs (over i) e (k, hand, above, after, (lt, few, room, f)) = (reverse above ++ after, (simp (f, reverse-append, append_assoc), simp (length-append, length-reverse) room))
 leaves ops t a st fs unbound e h = elim h [ ]
 
 words_only : {W : Type 0} (ops : Ops W) (t : Tree) (a : ValueType) (w : Worth W) (r : Result (Finished W) Halt) → Says ops t a w r → (f : Finished W) → r ≡ Ok f → w ≡ word f.word
-words_only {W} ops t a (word v) r (k, (le, fits, e)) f g =
-    let p : ◌≡◌ {A = Finished W} (record { word = v; steps = k }) f = cc in
-    ap (λ (z : Finished W). word z.word) p
+words_only ops t a (word v) r (k, (le, fits, e)) f g = cc
 words_only ops t a (over i) r (k, (lt, few, e)) f g = cc
 words_only ops t a unbound r h f g = elim h [ ]
 
 refusals_only : {W : Type 0} (ops : Ops W) (t : Tree) (a : ValueType) (w : Worth W) (r : Result (Finished W) Halt) → Says ops t a w r → (h : Halt) → r ≡ Err h → (i : ℕ) × ((w ≡ over i) × (h.refusal ≡ Overflow (placed t i)))
 refusals_only ops t a (word v) r (k, (le, fits, e)) h g = cc
-refusals_only ops t a (over i) r (k, (lt, few, e)) h g =
-    let p : ◌≡◌ {A = Halt} h (record { refusal = Overflow (placed t i); steps = k }) = cc in
-    (i, (refl, ap (λ (z : Halt). z.refusal) p))
+refusals_only ops t a (over i) r (k, (lt, few, e)) h g = (i, (refl, cc))
 refusals_only ops t a unbound r s h g = elim s [ ]
 
 pub answers : {W : Type 0} (ops : Ops W) → AnswersIn ops
@@ -63,10 +53,7 @@ answers {W} ops law t a typed xs base height budget eight room enough =
     let s : Says ops t a w (answered ops (words_of t) xs base height budget) = subst (λ z. Says ops t a w z) (sym r) (says ops t a st fs w e c) in
     let l = leaves ops t a st fs w e c in
     let all : stack_after ops (words_of t) xs base height budget ≡ take top xs ++ l.0 =
-    cond-false _ _ _ no ∙ ap (λ z. take base xs ++ z) (l.1.0 ∙ ap (λ z. z ++ l.0) (reverse-reverse (drop base (take top xs))))
-    ∙ sym (append_assoc (take base xs) (drop base (take top xs)) l.0)
-    ∙ ap (λ z. (z ++ drop base (take top xs)) ++ l.0) (sym (take-take base top xs (omega arith)))
-    ∙ ap (λ z. z ++ l.0) (take-append-drop base (take top xs)) in
+    cond-false _ _ _ no ∙ rw (l.1.0, reverse-reverse, ← append_assoc (take base xs) (drop base (take top xs)) l.0, ← take-take base top xs (omega arith), take-append-drop) in
     let len : length (take top xs) ≡ top = length-take-le top xs (omega arith) in
     record {
       says = s;
@@ -75,21 +62,3 @@ answers {W} ops law t a typed xs base height budget eight room enough =
       kept = ap (take top) all ∙ take_at (take top xs) l.0 top len;
       still = ap length all ∙ length-append (take top xs) l.0 ∙ omega (arith, len, l.1.1, length-drop top xs);
     }
-
--- the laws of an arithmetic are enough
-pub lawful : {W : Type 0} (ops : Ops W) (means : W → ℤ) (on : Meanings) → Sound means on ops → Lawful ops
-lawful ops means on sound =
-    record { zero_same = (sound.told (naught ops) (naught ops)).1 refl; one_other = by (ops.same (unit ops) (naught ops)) refl; product = times }
-  where
-    by : (b : Bool) → ops.same (unit ops) (naught ops) ≡ b → b ≡ false
-    by false e = refl
-    by true e =
-        let f : means (unit ops) ≡ means (naught ops) = (sound.told (unit ops) (naught ops)).0 e in
-        let g : pos 1 ≡ pos 0 = sym sound.one ∙ f ∙ sound.zero in
-        cc
-
-    times : (a b : Bool) → ops.times (truth ops a) (truth ops b) ≡ Some (truth ops (a && b))
-    times true true = sound.ones
-    times true false = sound.one_zero
-    times false true = sound.zero_one
-    times false false = sound.zeros

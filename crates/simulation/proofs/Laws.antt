@@ -1,5 +1,6 @@
 -- The law from the simulation.
-use Rattle.std.proofs.Common.{◌≡◌, ℕ, suc, ◌+◌, ◌-◌, ◌≤◌, List, ◌++◌, length, take, Some, None, ap, ◌∙◌, subst, arith}
+use Rattle.std.proofs.Common.{◌≡◌, ℕ, suc, ◌+◌, ◌-◌, ◌≤◌, List, ◌++◌, length, take, Some, None, ◌∙◌, arith}
+use Rattle.std.proofs.Math.Nat.{zero-add}
 use Rattle.std.proofs.lemmas.List.{length-map}
 use Rattle.arithmetic.specs.Words.{Ops}
 use Rattle.bytecode.specs.Words.{written}
@@ -26,31 +27,25 @@ closes : {W : Type 0} (ops : Ops W) (law : Lawful ops) (t : Tree) (a : ValueType
 closes ops law t a acc st fs budget enough (word v) h =
     let l = length-words t in
     let ws = words_of t in
-    let m : budget ≡ h.steps + (budget - h.steps) = omega (arith, h.few) in
-    let f : 0 + long t ≡ length ws = omega arith in
-    let z : 0 + long t ≡ long t = omega arith in
     let s = state (0 + long t) v st h.after (0 + h.steps) in
-    let e : runs ops (length ws) (fetch ws) budget (state 0 acc st fs 0) ≡ ended s None =
-    ap (λ b. runs ops (length ws) (fetch ws) b (state 0 acc st fs 0)) m
-    ∙ runs_reaches ops (length ws) (fetch ws) (past_end ws) h.steps (budget - h.steps) (state 0 acc st fs 0) s h.comes
-    ∙ runs_end ops (length ws) (fetch ws) (past_end ws) (budget - h.steps) s f in
-    (0 + h.steps, h.after, (omega (arith, h.few), h.room, h.fits, e ∙ ap (λ q. ended (state q v st h.after (0 + h.steps)) None) z))
+    let e : runs ops (length ws) (fetch ws) (h.steps + (budget - h.steps)) (state 0 acc st fs 0) ≡ ended s None =
+    runs_reaches ops (length ws) (fetch ws) (past_end ws) h.steps (budget - h.steps) (state 0 acc st fs 0) s h.comes.reaches
+    ∙ runs_end ops (length ws) (fetch ws) (past_end ws) (budget - h.steps) s (omega arith) in
+    let m : h.steps + (budget - h.steps) ≡ budget = omega (arith, h.few) in
+    (h.steps, h.after, (h.few, h.room, h.fits, simp (m, zero-add) at e))
 closes ops law t a acc st fs budget enough (over i) (lt, h) =
     let l = length-words t in
     let ws = words_of t in
-    let m : budget ≡ h.steps + suc (budget - h.steps - 1) = omega (arith, h.few) in
-    let z : 0 + placed t i ≡ placed t i = omega arith in
     let s = state (0 + placed t i) h.hand (h.above ++ st) h.after (0 + h.steps) in
-    let e : runs ops (length ws) (fetch ws) budget (state 0 acc st fs 0) ≡ ended s (Some (Overflow (0 + placed t i))) =
-    ap (λ b. runs ops (length ws) (fetch ws) b (state 0 acc st fs 0)) m
-    ∙ runs_reaches ops (length ws) (fetch ws) (past_end ws) h.steps (suc (budget - h.steps - 1)) (state 0 acc st fs 0) s h.comes
+    let e : runs ops (length ws) (fetch ws) (h.steps + suc (budget - h.steps - 1)) (state 0 acc st fs 0) ≡ ended s (Some (Overflow (0 + placed t i))) =
+    runs_reaches ops (length ws) (fetch ws) (past_end ws) h.steps (suc (budget - h.steps - 1)) (state 0 acc st fs 0) s h.comes.reaches
     ∙ runs_stop ops (length ws) (fetch ws) (past_end ws) (budget - h.steps - 1) (0 + placed t i) s h.stops in
-    (0 + h.steps, h.hand, h.above, h.after, (lt, omega (arith, h.few), h.room, e ∙ ap (λ q. ended (state q h.hand (h.above ++ st) h.after (0 + h.steps)) (Some (Overflow q))) z))
+    let m : h.steps + suc (budget - h.steps - 1) ≡ budget = omega (arith, h.few) in
+    (h.steps, h.hand, h.above, h.after, (lt, h.few, h.room, simp (m, zero-add) at e))
 closes ops law t a acc st fs budget enough unbound h = elim h [ ]
 
 pub computes : {W : Type 0} (ops : Ops W) → ComputesIn ops
 computes ops law t a typed acc st fs eight room budget enough =
     let ws = words_of t in
     let sim = simulated ops law (length ws) (fetch ws) (past_end ws) t field_slots fields 0 acc st fs 0 a (code_whole (translation t)) (well fields t a typed) (agree_numbers ops 8 st eight) room in
-    let sim' = subst (λ z. Sim ops law (length ws) (fetch ws) (past_end ws) 0 acc st fs 0 (long t) (size t) (placed t) (Fits ops a) (worth ops t z)) (values_top 8 st) sim in
-    closes ops law t a acc st fs budget enough (worth ops t (take 8 st)) sim'
+    closes ops law t a acc st fs budget enough (worth ops t (take 8 st)) (rw values_top at sim)

@@ -1,8 +1,11 @@
 -- Where the nodes of a tree stand, and code at a place.
-use Rattle.std.proofs.Common.{◌≡◌, ℕ, ◌+◌, ◌-◌, ◌<◌, ◌≤◌, cond, ltb, ◌⊎◌, List, [], ◌∷◌, ◌++◌, map, length, Some, None, Option, refl, ap, ◌∙◌, subst, inl, inr, append_assoc, arith, length-append}
+use Rattle.std.proofs.Common.{◌≡◌, ℕ, ◌+◌, ◌-◌, ◌<◌, ◌≤◌, cond, ltb, ◌⊎◌, List, [], ◌∷◌, ◌++◌, map, length, Some, None, Option, refl, ap, ◌∙◌, inl, inr, append_assoc, arith, length-append}
 use Rattle.std.specs.List.{slice_get}
-use Rattle.std.proofs.lemmas.Option.{slice_get_past}
-use Rattle.std.proofs.lemmas.Bool.{cond-true, cond-false, lt-ltb, le-ltb, cases_lt}
+use Rattle.std.proofs.lemmas.Option.{slice_get_past, slice_get-get_or}
+use Rattle.std.proofs.lemmas.Bool.Decides.{nat_tests}
+use Rattle.std.proofs.Math.Nat.{add-zero}
+use Rattle.std.proofs.Math.Seq.{get_or-append_seam}
+use Rattle.std.proofs.lemmas.Bool.{cases_lt}
 use Rattle.bytecode.specs.Words.{written}
 use Rattle.bytecode.proofs.Words.{word_back}
 use Rattle.bytecode.specs.declared.instruction.Word.{Word}
@@ -19,13 +22,7 @@ pub record Two (la lb sa sb : ℕ) (pa pb pl : ℕ → ℕ) : Type 0 where
 
 pub two_places : (la lb sa sb : ℕ) (pa pb : ℕ → ℕ) → Two la lb sa sb pa pb (λ i. pair_places la lb sa sb pa pb i)
 two_places la lb sa sb pa pb =
-    record {
-      one = λ i h. cond-true _ _ _ (lt-ltb i sa h);
-      other = λ i h.
-          let e : sa + i - sa ≡ i = omega arith in
-          cond-false _ _ _ (le-ltb (sa + i) sa (omega arith)) ∙ cond-true _ _ _ (lt-ltb (sa + i) (sa + sb) (omega arith)) ∙ ap (λ j. la + 1 + pb j) e;
-      last = cond-false _ _ _ (le-ltb (sa + sb) sa (omega arith)) ∙ cond-false _ _ _ (le-ltb (sa + sb) (sa + sb) (omega arith));
-    }
+    record { one = λ i h. grind (arith, nat_tests); other = λ i h. grind (arith, nat_tests); last = grind (arith, nat_tests) }
 
 pub record Three (lc lb sc sa sb : ℕ) (pc pa pb pl : ℕ → ℕ) : Type 0 where
   pub test : (i : ℕ) → i < sc → pl i ≡ pc i
@@ -35,15 +32,7 @@ pub record Three (lc lb sc sa sb : ℕ) (pc pa pb pl : ℕ → ℕ) : Type 0 whe
 pub three_places : (lc lb sc sa sb : ℕ) (pc pa pb : ℕ → ℕ) →
     Three lc lb sc sa sb pc pa pb (λ i. cond (ltb i sc) (pc i) (cond (ltb i (sc + sa)) (lc + 1 + lb + 1 + pa (i - sc)) (lc + 1 + pb (i - (sc + sa)))))
 three_places lc lb sc sa sb pc pa pb =
-    record {
-      test = λ i h. cond-true _ _ _ (lt-ltb i sc h);
-      taken = λ i h.
-          let e : sc + i - sc ≡ i = omega arith in
-          cond-false _ _ _ (le-ltb (sc + i) sc (omega arith)) ∙ cond-true _ _ _ (lt-ltb (sc + i) (sc + sa) (omega arith)) ∙ ap (λ j. lc + 1 + lb + 1 + pa j) e;
-      left = λ i h.
-          let e : sc + sa + i - (sc + sa) ≡ i = omega arith in
-          cond-false _ _ _ (le-ltb (sc + sa + i) sc (omega arith)) ∙ cond-false _ _ _ (le-ltb (sc + sa + i) (sc + sa) (omega arith)) ∙ ap (λ j. lc + 1 + pb j) e;
-    }
+    record { test = λ i h. grind (arith, nat_tests); taken = λ i h. grind (arith, nat_tests); left = λ i h. grind (arith, nat_tests) }
 
 pub length-code : (s : List Slot) (t : Tree) → length (code s t) ≡ long t
 length-code s (number k p) = refl
@@ -64,32 +53,23 @@ length-code s (bind p t u) =
     let f = length-code (bound ∷ s) u in
     simp length-append (omega arith)
 
-pub long_some : (t : Tree) → 0 < long t
-long_some (number k p) = omega arith
-long_some (truth b p) = omega arith
-long_some (name k p) = omega arith
-long_some (prefix o p t) = omega arith
-long_some (binary o p t u) = omega arith
-long_some (choose p t u v) = omega arith
-long_some (bind p t u) = omega arith
-
 -- these instructions lie at the place p
 abbrev pub CodeAt : (ℕ → Option (Instruction × ℕ)) → ℕ → List Instruction → Type 0
 CodeAt get p [] = Unit {0}
 CodeAt get p (x ∷ xs) = (get p ≡ Some (x, p + 1)) × CodeAt get (p + 1) xs
 
 pub split_at : (get : ℕ → Option (Instruction × ℕ)) (xs ys : List Instruction) (p : ℕ) → CodeAt get p (xs ++ ys) → CodeAt get p xs × CodeAt get (p + length xs) ys
-split_at get [] ys p h = let e : p ≡ p + 0 = omega arith in (tt, subst (λ q. CodeAt get q ys) e h)
+split_at get [] ys p h = (tt, rw add-zero h)
 split_at get (x ∷ xs) ys p h =
     let r = split_at get xs ys (p + 1) h.1 in
     let e : p + 1 + length xs ≡ p + length (x ∷ xs) = omega arith in
-    ((h.0, r.0), subst (λ q. CodeAt get q ys) e r.1)
+    ((h.0, r.0), rw e at r.1)
 
 pub split_code : (get : ℕ → Option (Instruction × ℕ)) (t : Tree) (s : List Slot) (ys : List Instruction) (p : ℕ) →
     CodeAt get p (code s t ++ ys) → CodeAt get p (code s t) × CodeAt get (p + long t) ys
 split_code get t s ys p h =
     let r = split_at get (code s t) ys p h in
-    (r.0, subst (λ n. CodeAt get (p + n) ys) (length-code s t) r.1)
+    (r.0, rw length-code at r.1)
 
 -- nothing lies past the end, so code that lies at a place ends within
 before_end : (get : ℕ → Option (Instruction × ℕ)) (end : ℕ) → ((p : ℕ) → end ≤ p → get p ≡ None) → (x : Instruction) (p q : ℕ) → get p ≡ Some (x, q) → p < end
@@ -99,31 +79,21 @@ before_end get end past x p q f = by (cases_lt p end)
     by (inl lt) = lt
     by (inr ge) = let e = past p ge in cc
 
-pub at_fits : (get : ℕ → Option (Instruction × ℕ)) (end : ℕ) → ((p : ℕ) → end ≤ p → get p ≡ None) → (xs : List Instruction) (p : ℕ) → 0 < length xs → CodeAt get p xs → p + length xs ≤ end
-at_fits get end past [] p h c = absurd (omega arith)
-at_fits get end past (x ∷ []) p h c = let r = before_end get end past x p (p + 1) c.0 in omega arith
-at_fits get end past (x ∷ (y ∷ xs)) p h c = let r = at_fits get end past (y ∷ xs) (p + 1) (omega arith) c.1 in omega arith
+at_fits : (get : ℕ → Option (Instruction × ℕ)) (end : ℕ) → ((p : ℕ) → end ≤ p → get p ≡ None) → (x : Instruction) (xs : List Instruction) (p : ℕ) → CodeAt get p (x ∷ xs) → p + 1 + length xs ≤ end
+at_fits get end past x [] p c = let r = before_end get end past x p (p + 1) c.0 in omega arith
+at_fits get end past x (y ∷ xs) p c = let r = at_fits get end past y xs (p + 1) c.1 in omega arith
 
-pub code_fits : (get : ℕ → Option (Instruction × ℕ)) (end : ℕ) → ((p : ℕ) → end ≤ p → get p ≡ None) → (s : List Slot) (t : Tree) (p : ℕ) → CodeAt get p (code s t) → p + long t ≤ end
-code_fits get end past s t p c =
-    let e = length-code s t in
-    let some : 0 < length (code s t) = omega (arith, long_some t) in
-    let f = at_fits get end past (code s t) p some c in
-    omega arith
+pub code_fits : (get : ℕ → Option (Instruction × ℕ)) (end : ℕ) → ((p : ℕ) → end ≤ p → get p ≡ None) → (x : Instruction) (s : List Slot) (t : Tree) (p : ℕ) → CodeAt get p (x ∷ code s t) → p + 1 + long t ≤ end
+code_fits get end past x s t p c = rw length-code at (at_fits get end past x (code s t) p c)
 
 -- the words of instructions, read from the list of them
-nth_here : {X : Type 0} (xs : List X) (x : X) (ys : List X) → slice_get (xs ++ x ∷ ys) (length xs) ≡ Some x
-nth_here [] x ys = refl
-nth_here (z ∷ xs) x ys = nth_here xs x ys
-
 code_stands_after : (ws : List Word) (xs : List Instruction) → CodeAt (fetch (ws ++ map written xs)) (length ws) xs
 code_stands_after ws [] = tt
 code_stands_after ws (x ∷ xs) =
-    let e : (ws ++ written x ∷ []) ++ map written xs ≡ ws ++ written x ∷ map written xs = append_assoc ws (written x ∷ []) (map written xs) in
-    let l : length (ws ++ written x ∷ []) ≡ length ws + 1 = simp length-append in (
-      ap (λ o. followed (read_as o) (length ws + 1)) (nth_here ws (written x) (map written xs)) ∙ ap (λ o. followed o (length ws + 1)) (word_back x),
-      subst (λ n. CodeAt (fetch (ws ++ written x ∷ map written xs)) n xs) l (subst (λ w. CodeAt (fetch w) (length (ws ++ written x ∷ [])) xs) e (code_stands_after (ws ++ written x ∷ []) xs)),
-    )
+    let n : slice_get (ws ++ written x ∷ map written xs) (length ws) ≡ Some (written x) =
+    slice_get-get_or (ws ++ written x ∷ map written xs) (length ws) (written x) (omega (arith, length-append ws (written x ∷ map written xs))) ∙ ap Some (get_or-append_seam ws (written x) (map written xs) (written x)) in
+    let b = word_back x in
+    (simp (n, b), simp (append_assoc, length-append) at (code_stands_after (ws ++ written x ∷ []) xs))
 
 pub code_whole : (xs : List Instruction) → CodeAt (fetch (map written xs)) 0 xs
 code_whole xs = code_stands_after [] xs

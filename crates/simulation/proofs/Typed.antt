@@ -1,5 +1,6 @@
 -- What a typed tree has: the types of its parts, and words of these types.
-use Rattle.std.proofs.Common.{◌≡◌, ℕ, zero, suc, ◌+◌, ◌≤◌, Bool, true, false, ◌&&◌, List, [], ◌∷◌, length, take, replicate, Some, None, Ok, Err, Option, Result, sym, refl, ap, ◌∙◌, subst, arith}
+use Rattle.std.proofs.Common.{◌≡◌, ℕ, zero, suc, ◌≤◌, Bool, true, false, List, [], ◌∷◌, length, take, replicate, Some, None, Ok, Err, Option, Result, refl, ap, add-one, arith}
+use Rattle.std.proofs.lemmas.Bool.{and_parts}
 use Rattle.std.specs.List.{slice_get}
 use Rattle.std.proofs.lemmas.Option.{slice_get_within}
 use Rattle.arithmetic.specs.Words.{Ops}
@@ -22,15 +23,12 @@ Well env (binary o p t u) a = Well env t (row_of o).takes × (Well env u (row_of
 Well env (choose p t u v) a = Well env t Truth × (Well env u a × Well env v a)
 Well env (bind p t u) a = (b : ValueType) × (Well env t b × Well (b ∷ env) u a)
 
-ok_is : (a b : ValueType) → ◌≡◌ {A = Result ValueType ℕ} (Ok a) (Ok b) → b ≡ a
-ok_is a b e = cc
-
 and_then_parts : (r : Result ValueType ℕ) (f : ValueType → Result ValueType ℕ) (c : ValueType) → and_then r f ≡ Ok c → (a : ValueType) × ((r ≡ Ok a) × (f a ≡ Ok c))
 and_then_parts (Ok a) f c e = (a, (refl, e))
 and_then_parts (Err p) f c e = cc
 
 fit : (b : Bool) (g : ValueType) (p : ℕ) (c : ValueType) → fitting b g p ≡ Ok c → (b ≡ true) × (c ≡ g)
-fit true g p c e = (refl, ok_is g c e)
+fit true g p c e = (refl, cc)
 fit false g p c e = cc
 
 same_is : (a b : ValueType) → same_type a b ≡ true → a ≡ b
@@ -39,51 +37,34 @@ same_is Number Truth e = cc
 same_is Truth Number e = cc
 same_is Truth Truth e = refl
 
-both : (a b : Bool) → (a && b) ≡ true → (a ≡ true) × (b ≡ true)
-both true b e = (refl, e)
-both false b e = cc
-
 known_is : (o : Option ValueType) (p : ℕ) (a : ValueType) → known o p ≡ Ok a → o ≡ Some a
 known_is None p a e = cc
-known_is (Some b) p a e = ap Some (sym (ok_is b a e))
+known_is (Some b) p a e = cc
 
 pub well : (env : List ValueType) (t : Tree) (a : ValueType) → typed env t ≡ Ok a → Well env t a
-well env (number k p) a e = ok_is Number a e
-well env (truth b p) a e = ok_is Truth a e
+well env (number k p) a e = cc
+well env (truth b p) a e = cc
 well env (name k p) a e = known_is (slice_get env k) p a e
 well env (prefix o p t) a e =
-    let r = and_then_parts (typed env t) (λ c. fitting (same_type c (prefix_row_of o).takes) (prefix_row_of o).gives p) a e in
-    let c = r.0 in
-    let f = fit (same_type c (prefix_row_of o).takes) (prefix_row_of o).gives p a r.1.1 in
-    (subst (λ z. Well env t z) (same_is c (prefix_row_of o).takes f.0) (well env t c r.1.0), f.1)
+    let (c, (h, r)) = and_then_parts _ _ a e in
+    let f = fit _ _ p a r in
+    (rw (same_is c (prefix_row_of o).takes f.0) at (well env t c h), f.1)
 well env (binary o p t u) a e =
-    let r = and_then_parts (typed env t) (λ c. and_then (typed env u) (λ d. fitting (same_type c (row_of o).takes && same_type d (row_of o).takes) (row_of o).gives p)) a e in
-    let c = r.0 in
-    let q = and_then_parts (typed env u) (λ d. fitting (same_type c (row_of o).takes && same_type d (row_of o).takes) (row_of o).gives p) a r.1.1 in
-    let d = q.0 in
-    let f = fit (same_type c (row_of o).takes && same_type d (row_of o).takes) (row_of o).gives p a q.1.1 in
-    let g = both (same_type c (row_of o).takes) (same_type d (row_of o).takes) f.0 in (
-      subst (λ z. Well env t z) (same_is c (row_of o).takes g.0) (well env t c r.1.0),
-      (subst (λ z. Well env u z) (same_is d (row_of o).takes g.1) (well env u d q.1.0), f.1),
-    )
+    let (c, (h, r)) = and_then_parts _ _ a e in
+    let (d, (i, q)) = and_then_parts _ _ a r in
+    let f = fit _ _ p a q in
+    let g = and_parts _ _ f.0 in
+    (rw (same_is c (row_of o).takes g.0) at (well env t c h), (rw (same_is d (row_of o).takes g.1) at (well env u d i), f.1))
 well env (choose p t u v) a e =
-    let r = and_then_parts (typed env t) (λ b. and_then (typed env u) (λ c. and_then (typed env v) (λ d. fitting (same_type b Truth && same_type c d) c p))) a e in
-    let b = r.0 in
-    let q = and_then_parts (typed env u) (λ c. and_then (typed env v) (λ d. fitting (same_type b Truth && same_type c d) c p)) a r.1.1 in
-    let c = q.0 in
-    let s = and_then_parts (typed env v) (λ d. fitting (same_type b Truth && same_type c d) c p) a q.1.1 in
-    let d = s.0 in
-    let f = fit (same_type b Truth && same_type c d) c p a s.1.1 in
-    let g = both (same_type b Truth) (same_type c d) f.0 in (
-      subst (λ z. Well env t z) (same_is b Truth g.0) (well env t b r.1.0),
-      (
-        subst (λ z. Well env u z) (sym f.1) (well env u c q.1.0),
-        subst (λ z. Well env v z) (sym (same_is c d g.1) ∙ sym f.1) (well env v d s.1.0),
-      ),
-    )
+    let (b, (h, r)) = and_then_parts _ _ a e in
+    let (c, (i, q)) = and_then_parts _ _ a r in
+    let (d, (j, s)) = and_then_parts _ _ a q in
+    let f = fit _ _ p a s in
+    let g = and_parts _ _ f.0 in
+    (rw (same_is b Truth g.0) at (well env t b h), (rw f.1 (well env u c i), rw (f.1, same_is c d g.1) (well env v d j)))
 well env (bind p t u) a e =
-    let r = and_then_parts (typed env t) (λ b. typed (b ∷ env) u) a e in
-    (r.0, (well env t r.0 r.1.0, well (r.0 ∷ env) u a r.1.1))
+    let (b, (h, r)) = and_then_parts _ _ a e in
+    (b, (well env t b h, well (b ∷ env) u a r))
 
 -- each name of a typed tree has a binding
 pub well_bound : (env : List ValueType) (t : Tree) (a : ValueType) → Well env t a → Bound (length env) t
@@ -94,8 +75,7 @@ well_bound env (prefix o p t) a w = well_bound env t (prefix_row_of o).takes w.0
 well_bound env (binary o p t u) a w = (well_bound env t (row_of o).takes w.0, well_bound env u (row_of o).takes w.1.0)
 well_bound env (choose p t u v) a w = (well_bound env t Truth w.0, (well_bound env u a w.1.0, well_bound env v a w.1.1))
 well_bound env (bind p t u) a w =
-    let n : length (w.0 ∷ env) ≡ length env + 1 = omega arith in
-    (well_bound env t w.0 w.1.0, subst (λ m. Bound m u) n (well_bound (w.0 ∷ env) u a w.1.1))
+    (well_bound env t w.0 w.1.0, rw add-one (well_bound (w.0 ∷ env) u a w.1.1))
 
 pub are_bound : AreBound
 are_bound t a e = well_bound fields t a (well fields t a e)
@@ -116,7 +96,7 @@ Agree ops (a ∷ env) (v ∷ vs) = Fits ops a v × Agree ops env vs
 pub agree_at : {W : Type 0} (ops : Ops W) (env : List ValueType) (vs : List W) (k : ℕ) (a : ValueType) → Agree ops env vs → slice_get env k ≡ Some a → (v : W) × ((slice_get vs k ≡ Some v) × Fits ops a v)
 agree_at ops [] vs k a h e = cc
 agree_at ops (b ∷ env) [] k a h e = elim h [ ]
-agree_at ops (b ∷ env) (v ∷ vs) zero a h e = let f : b ≡ a = cc in (v, (refl, subst (λ c. Fits ops c v) f h.0))
+agree_at ops (b ∷ env) (v ∷ vs) zero a h e = let f : b ≡ a = cc in (v, (refl, rw f at h.0))
 agree_at ops (b ∷ env) (v ∷ vs) (suc k) a h e = agree_at ops env vs k a h.1 e
 
 -- a name's word lies where its code looks for it
@@ -124,8 +104,8 @@ pub above_is : {W : Type 0} (s : List Slot) (st : List W) (k : ℕ) (v : W) → 
 above_is [] st k v e = cc
 above_is (x ∷ s) [] k v e = cc
 above_is (bound ∷ s) (w ∷ st) zero v e = e
-above_is (bound ∷ s) (w ∷ st) (suc k) v e = let n : above s k + 1 ≡ suc (above s k) = omega arith in ap (λ i. slice_get (w ∷ st) i) n ∙ above_is s st k v e
-above_is (waiting ∷ s) (w ∷ st) k v e = let n : above s k + 1 ≡ suc (above s k) = omega arith in ap (λ i. slice_get (w ∷ st) i) n ∙ above_is s st k v e
+above_is (bound ∷ s) (w ∷ st) (suc k) v e = rw add-one (above_is s st k v e)
+above_is (waiting ∷ s) (w ∷ st) k v e = rw add-one (above_is s st k v e)
 
 pub values_top : {W : Type 0} (n : ℕ) (st : List W) → values (replicate n bound) st ≡ take n st
 values_top zero st = refl
