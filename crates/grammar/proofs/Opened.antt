@@ -64,7 +64,7 @@ pub depths : {fs : List Frame} {ps g : List (List ℕ)} {es : List Entry} {ts : 
 depths nothing = refl
 depths (more q c we ne ee te) = nested c _ ∙ depths q
 
-lower : {g : List (List ℕ)} {d : ℕ} {ts : List Lexeme} {t : Tree} (j k : ℕ) → k ≤ j → Derives j g d ts t → Derives k g d ts t
+pub lower : {g : List (List ℕ)} {d : ℕ} {ts : List Lexeme} {t : Tree} (j k : ℕ) → k ≤ j → Derives j g d ts t → Derives k g d ts t
 lower {g} {d} {ts} {t} zero k h r = let e : 0 ≡ k = omega arith in subst (λ x. Derives x g d ts t) e r
 lower {g} {d} {ts} {t} (suc j) k h r =
     elim (cases_eq (suc j) k) [ inl e ↦ subst (λ x. Derives x g d ts t) e r | inr e ↦ lower j k (omega arith) (tighter r) ]

@@ -8,7 +8,7 @@ use Rattle.language.specs.declared.operator.Operator.TheVariants.{Equal}
 use Rattle.language.specs.declared.token.TokenKind.TheVariants.{If, Then, Else, Let, In, Open, Close, Name}
 use Rattle.grammar.specs.Grammar.{Derives, level, left_level, Bound, constant, truth_value, named, parens, prefixed, join, if_else, let_in}
 use Rattle.grammar.specs.Laws.{Means}
-use Rattle.grammar.proofs.Frames.{level_top, left_top}
+use Rattle.grammar.proofs.Frames.{levels}
 use Rattle.grammar.proofs.Opened.{lower}
 use Rattle.grammar.proofs.Texts.{reading_complete}
 use Rattle.grammar.proofs.Trees.{faithful}
@@ -53,7 +53,7 @@ combined {p = p} {ws = ws} {vs} o m w =
       derived =
           rw lexed_append
           (lower (level o) 0 (omega arith)
-          (join (lex x (operator_word o)) o (lower 6 (left_level o) (omega (arith, level_top o, left_top o)) m.derived) (reads_operator o).kind (lower 6 (suc (level o)) (omega (arith, level_top o)) w.derived)));
+          (join (lex x (operator_word o)) o (lower 6 (left_level o) (omega (arith, levels o)) m.derived) (reads_operator o).kind (lower 6 (suc (level o)) (omega (arith, levels o)) w.derived)));
     }
 
 -- an if of three operands

@@ -13,7 +13,8 @@ use Rattle.machine.specs.Runs.{ended, runs}
 use Rattle.machine.specs.Steps.{state, fetch}
 use Rattle.refusal.specs.declared.Refusal.TheVariants.{Overflow}
 use Rattle.simulation.specs.Law.{Lawful, Fits, words_of, Closes, ComputesIn}
-use Rattle.simulation.proofs.Places.{length-code, code_whole, past_end}
+use Rattle.language.proofs.Lengths.{length-code}
+use Rattle.simulation.proofs.Places.{code_whole, past_end}
 use Rattle.simulation.proofs.Reached.{runs_reaches, runs_end, runs_stop}
 use Rattle.simulation.proofs.Simulation.{Sim, simulated}
 use Rattle.simulation.proofs.Typed.{well, values_top, agree_numbers}

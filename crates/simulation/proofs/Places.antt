@@ -11,6 +11,7 @@ use Rattle.bytecode.proofs.Words.{word_back}
 use Rattle.bytecode.specs.declared.instruction.Word.{Word}
 use Rattle.bytecode.specs.declared.instruction.Instruction.{Instruction}
 use Rattle.evaluation.specs.Worth.{pair_places}
+use Rattle.language.proofs.Lengths.{length-code}
 use Rattle.language.specs.Code.{Slot, bound, waiting, code, long}
 use Rattle.language.specs.Tree.{Tree, number, truth, name, prefix, binary, choose, bind}
 use Rattle.machine.specs.Steps.{fetch, read_as, followed}
@@ -33,25 +34,6 @@ pub three_places : (lc lb sc sa sb : ℕ) (pc pa pb : ℕ → ℕ) →
     Three lc lb sc sa sb pc pa pb (λ i. cond (ltb i sc) (pc i) (cond (ltb i (sc + sa)) (lc + 1 + lb + 1 + pa (i - sc)) (lc + 1 + pb (i - (sc + sa)))))
 three_places lc lb sc sa sb pc pa pb =
     record { test = λ i h. grind (arith, nat_tests); taken = λ i h. grind (arith, nat_tests); left = λ i h. grind (arith, nat_tests) }
-
-pub length-code : (s : List Slot) (t : Tree) → length (code s t) ≡ long t
-length-code s (number k p) = refl
-length-code s (truth b p) = refl
-length-code s (name k p) = refl
-length-code s (prefix o p t) = let e = length-code s t in simp length-append (omega arith)
-length-code s (binary o p t u) =
-    let e = length-code s t in
-    let f = length-code (waiting ∷ s) u in
-    simp length-append (omega arith)
-length-code s (choose p t u v) =
-    let d = length-code s t in
-    let e = length-code s u in
-    let f = length-code s v in
-    simp length-append (omega arith)
-length-code s (bind p t u) =
-    let e = length-code s t in
-    let f = length-code (bound ∷ s) u in
-    simp length-append (omega arith)
 
 -- these instructions lie at the place p
 abbrev pub CodeAt : (ℕ → Option (Instruction × ℕ)) → ℕ → List Instruction → Type 0
