@@ -49,9 +49,11 @@ pub trait Arithmetic {
 }
 
 /// 16 bits: every result is taken modulo 65,536.
+#[derive(Clone, Copy, PartialEq, Eq, Debug)]
 pub struct Round;
 
 /// 32 bits with a sign: every result is exact, or an overflow.
+#[derive(Clone, Copy, PartialEq, Eq, Debug)]
 pub struct Ranged;
 
 impl Arithmetic for Round {

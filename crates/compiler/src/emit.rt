@@ -20,7 +20,7 @@ fn byte(n: usize) -> u8
     u8::try_from(n).unwrap_or(255)
 }
 
-// The two jumps of an if are two functions, so that each count of words stands in one place.
+// The two jumps of an if are two functions, since they differ in the instruction and in the words that they count.
 
 // The jump behind a condition: over the else code, of this many words, and the jump behind it.
 fn over_else(words: usize) -> Instruction

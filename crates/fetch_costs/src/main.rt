@@ -8,7 +8,7 @@ use memory::{CodeMemory, Flat};
 use records::RecordMemory;
 use std::env;
 
-// Appends 315 words that differ.
+// Appends 315 words that differ, one for each number.
 fn fill<M: CodeMemory>(memory: &mut M) {
     memory.clear();
     for i in 0..315u16 {
@@ -47,10 +47,9 @@ fn show(rt: &HostRuntime, name: &str, rounds: u32) -> anyhow::Result<()> {
 fn main(rt: HostRuntime) -> anyhow::Result<()> {
     let mut args = env::args(&rt)?.skip(1);
     let name = args.next();
-    let rounds = match args.next() {
-        Some(text) => text.as_str().parse::<u32>()?,
-        None => 1,
-    };
+    let rounds = args
+        .next()
+        .map_or(Ok(1), |text| text.as_str().parse::<u32>())?;
     show(
         &rt,
         name.as_ref().map_or("both", |name| name.as_str()),

@@ -10,7 +10,7 @@ use refusal::Refusal;
 /// The machine at an instruction.
 #[derive(Drop)]
 pub struct Processor<'s, W> {
-    /// The words above the base.
+    /// The words above the base. A slice with the height beside it, since the stack is lent.
     pub words: &'s mut [W],
     /// How many of them are in use.
     pub height: usize,

@@ -9,8 +9,8 @@ use bytecode::Word;
 use refusal::Refusal;
 
 /// A list of words, with room for at most 65,535 of them. The room never changes.
-// Each method that takes a memory as `&mut` says so, and so does each generic function above: a caller knows no more of
-// a call than its clauses.
+// Each method that takes a memory as `&mut` says so, and what becomes of the list, and so does each generic function of
+// the crates above: a caller knows no more of a call than its clauses.
 pub trait CodeMemory {
     ghost listed: { Self → List Word };
 

@@ -24,7 +24,8 @@ abbrev pub Answered : Step → Result (Unit {0}) Refusal → Parser → Parser �
 Answered (Ok u) r old new = (r ≡ Ok tt) × (view new ≡ u.0) × (new.table.now ≡ put old.table.now old.count u.1)
 Answered (Err e) r old new = r ≡ Err e
 
--- one more entry or frame can be counted, which only the caller of a step knows, whose token is a new one
+-- one more entry or frame can be counted: only the caller of a step knows it, whose token is a new one, so it is no
+-- invariant of a parser
 abbrev pub Room : Parser → Type 0
 Room p = p.count + length (frames_of p.stack) + 1 < 2 ^ 64
 

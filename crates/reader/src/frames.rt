@@ -62,6 +62,7 @@ impl Stack {
     }
 
     /// Gives the nested frame on top another mark, also of a nested frame, before entries that come after `first`.
+    // Off and on again, since a proof does not know what a write through `last_mut` leaves in the vector.
     pub(crate) fn remark(&mut self, mark: Mark, first: usize)
         requires top { top_nests (frames_of self.old) ≡ true }
         requires mark { nests_by mark ≡ true }

@@ -94,10 +94,7 @@ impl<'t, 'a> Parser<'t, 'a> {
         ensures { Stepped (begun (opening_of token.entry.kind) (view self.old) token.entry.kind token.entry.place token.entry.text.now) result self.old self.new }
     {
         let place = token.place;
-        let Some(opening) = opening(token.kind) else {
-            return Err(refused(token.kind, place));
-        };
-        match opening {
+        match opening(token.kind).ok_or(refused(token.kind, place))? {
             Opening::Leaf(kind, number) => self.leaf(kind, number, place),
             Opening::Name => {
                 let i = self

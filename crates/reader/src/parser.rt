@@ -17,6 +17,7 @@ pub struct Parser<'t, 'a> {
     pub pending: Names<'a>,
     pub scope: Names<'a>,
     pub due: Due,
+    // The table is lent, and may be shorter than the entries that are counted.
     pub table: &'t mut [Entry],
     pub count: usize,
     ghost valued: { length (held pending) ≡ values (frames_of stack) },

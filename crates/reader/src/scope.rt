@@ -4,7 +4,7 @@ ghost use Rattle.std.specs.Prelude.{◌≡◌, ◌+◌, ◌-◌, ◌<◌, [], �
 ghost use Rattle.language.specs.Names.{field_names, find, position};
 ghost use Rattle.reader.specs.Scopes.{newest_first, held};
 
-use crate::names::{Name, Names};
+use crate::names::Names;
 use arrayvec::ArrayVec;
 
 impl<'a> Names<'a> {
@@ -22,7 +22,7 @@ impl<'a> Names<'a> {
         requires { length (held self.old) < 64 }
         ensures { held self.new ≡ text.now ∷ held self.old }
     {
-        self.names.push(Name { text });
+        self.names.push(text);
     }
 
     /// Takes the name on top off.
@@ -70,14 +70,14 @@ fn field(name: &[u8]) -> Option<usize>
 }
 
 // Tries the newest name, and else calls on itself for those outside it.
-fn find_among(names: &[Name<'_>], text: &[u8]) -> Option<usize>
+fn find_among(names: &[&[u8]], text: &[u8]) -> Option<usize>
     ensures value { result ≡ position text.now (newest_first names.now) }
     ensures bound { IfSome result (λ i. i < length names.now + 8) }
 {
     let Some((newest, outer)) = names.split_last() else {
         return field(text);
     };
-    if newest.text == text {
+    if *newest == text {
         return Some(0);
     }
     find_among(outer, text).map(|i| i + 1)

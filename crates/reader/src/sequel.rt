@@ -104,9 +104,7 @@ impl<'t, 'a> Parser<'t, 'a> {
         requires { Room self.old }
         ensures { Stepped (gone_on (sequel_of token.entry.kind) (view self.old) token.entry.kind token.entry.place) result self.old self.new }
     {
-        let Some(sequel) = sequel(token.kind) else {
-            return Err(refused(token.kind, token.place));
-        };
+        let sequel = sequel(token.kind).ok_or(refused(token.kind, token.place))?;
         self.close(least_of(sequel));
         self.follow(sequel, token.place)
             .ok_or(Refusal::Unexpected(token.place))

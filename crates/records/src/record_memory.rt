@@ -1,11 +1,11 @@
 //! A code memory in 64 records of 16 bytes.
 
-ghost use Rattle.std.specs.Prelude.{◌≡◌, ℕ, ◌<◌, ◌≤◌, [], length, slice_index, MatchOption};
+ghost use Rattle.std.specs.Prelude.{◌≡◌, ℕ, ◌<◌, ◌≤◌, [], slice_index, MatchOption};
 ghost use Rattle.std.specs.List.{slice_get};
 ghost use Rattle.memory.specs.Lists.{answered, appended};
-ghost use Rattle.records.specs.Layout.{first_free, count, records_for, reached, code, Formed, blank};
+ghost use Rattle.records.specs.Layout.{count, records_for, reached, code, blank};
 ghost use Rattle.records.specs.Writes.{appended_in, cleared_in};
-ghost use Rattle.records.specs.Steps.{Found, index_after};
+ghost use Rattle.records.specs.Steps.{Stands, Found, index_after};
 
 use crate::bytes::{add_word, blank_bytes, clear_words, count_in};
 use crate::cursor::Cursor;
@@ -20,11 +20,7 @@ pub struct RecordMemory {
     bytes: [u8; 1024],
     last: usize,
     cursor: Cursor,
-    ghost few: { count bytes ≤ 315 },
-    ghost formed: { ∥ Formed bytes ∥₁ },
-    ghost free: { first_free bytes < 64 },
-    ghost near: { last < 64 },
-    ghost ends: { last ≡ reached bytes (records_for (count bytes)) },
+    ghost chains: { Stands bytes last },
     ghost within: { cursor.index ≤ records_for (count bytes) },
     ghost stands: { cursor.record ≡ reached bytes cursor.index },
 }

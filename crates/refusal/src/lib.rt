@@ -83,7 +83,7 @@ impl Part {
 
 impl Refusal {
     /// The refusal's number.
-    // Numbers of the product's own, with gaps, so no discriminants of the cases.
+    // By a match, since the cases hold places and more, and so none is cast to a number.
     pub fn number(self) -> u8
         ensures { result ≡ number_of self }
     {

@@ -2,7 +2,7 @@
 
 /// How many words the code has, how many words of its own it puts on the stack at once, and the place of the first if
 /// with a branch too long for a jump.
-#[derive(Clone, Copy, Default)]
+#[derive(Clone, Copy, PartialEq, Eq, Debug, Default)]
 pub struct Shape {
     pub length: usize,
     pub tall: usize,

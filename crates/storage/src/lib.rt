@@ -54,7 +54,8 @@ pub fn operate<M: CodeMemory>(memory: &mut M, operations: &[Operation], answers:
     ensures rest { drop (length operations.now) answers.new ≡ drop (length operations.now) answers.old }
 {
     memory.clear();
-    // The answers may be fewer than the operations, so none is taken with its operation by `zip`.
+    // The answers lie in a slice that the caller lends, since there is no heap. They may be fewer than the operations, so
+    // none is taken with its operation by `zip`.
     for (i, operation) in operations.iter().enumerate() {
         let answer = perform(memory, *operation);
         write_answer(answers, i, answer);

@@ -53,29 +53,26 @@ fn type_of(entries: &[Entry], scope: &mut Bindings<ValueType>) -> Result<ValueTy
     ensures kept { scope.new ≡ scope.old }
     ensures value { (t : Tree) → entries.now ≡ flatten t → result ≡ judged (typed (reverse scope.old.items) t) }
 {
-    match root(entries) {
-        None => Err(Refusal::IllTyped(0)),
-        Some(Node::Number(_)) => Ok(ValueType::Number),
-        Some(Node::Truth(_)) => Ok(ValueType::Truth),
-        Some(Node::Name(position, place)) => {
-            bound(scope, position).ok_or(Refusal::IllTyped(place))
-        }
-        Some(Node::Prefix(operator, place, part)) => {
+    match root(entries).ok_or(Refusal::IllTyped(0))? {
+        Node::Number(_) => Ok(ValueType::Number),
+        Node::Truth(_) => Ok(ValueType::Truth),
+        Node::Name(position, place) => { bound(scope, position).ok_or(Refusal::IllTyped(place)) }
+        Node::Prefix(operator, place, part) => {
             let a = type_of(part, scope)?;
             prefix(operator, a, place)
         }
-        Some(Node::Binary(operator, place, first, second)) => {
+        Node::Binary(operator, place, first, second) => {
             let a = type_of(first, scope)?;
             let b = type_of(second, scope)?;
             binary(operator, a, b, place)
         }
-        Some(Node::If(place, test, first, second)) => {
+        Node::If(place, test, first, second) => {
             let a = type_of(test, scope)?;
             let b = type_of(first, scope)?;
             let c = type_of(second, scope)?;
             choice(a, b, c, place)
         }
-        Some(Node::Let(value, body)) => {
+        Node::Let(value, body) => {
             let a = type_of(value, scope)?;
             scope.push(a);
             let b = type_of(body, scope);

@@ -10,7 +10,7 @@ returns c =
     let record_is = c.walk-record.ensures in
     record {
       there = omega arith;
-      word = code_there self.bytes place c.walk-record.result c.from.result (size_formed self.bytes self.formed) (omega arith) record_is.within record_is.is (c.from.ensures ∙ ap (λ xs. get_or xs (place % 5) []) c.as_chunks.ensures.front);
+      word = code_there self.bytes place c.walk-record.result c.from.result (size_formed self.bytes self.chains.formed) (omega arith) record_is.within record_is.is (c.from.ensures ∙ ap (λ xs. get_or xs (place % 5) []) c.as_chunks.ensures.front);
       index = refl;
       stands = record_is.is;
     }
