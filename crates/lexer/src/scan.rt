@@ -70,7 +70,7 @@ fn mark_at(text: &[u8]) -> (TokenKind, usize)
     }
 }
 
-// The run of digits at the start of the text.
+// The run of digits at the start of the text, cut off by its length as in the definition.
 fn numeral_at(negative: bool, text: &[u8]) -> (TokenKind, usize)
     ensures { result ≡ numeral_at negative text.now }
 {
@@ -78,7 +78,7 @@ fn numeral_at(negative: bool, text: &[u8]) -> (TokenKind, usize)
     (numeral_of(negative, &text[..n]), n)
 }
 
-// The run of letters and digits at the start of the text.
+// The run of letters and digits at the start of the text, cut off likewise.
 fn word_at(text: &[u8]) -> (TokenKind, usize)
     ensures { result ≡ word_at text.now }
 {
