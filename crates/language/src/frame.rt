@@ -1,4 +1,4 @@
-//! What stays open while a rule is read.
+//! What stays open while a rule is read. Values and no functions to call, since the grammar's fold reads them too.
 
 use crate::operator::{Operator, Prefix};
 

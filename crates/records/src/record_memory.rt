@@ -15,6 +15,7 @@ use refusal::Refusal;
 
 /// The records, and beside them what need not be looked for again: the rule's last record, and where the last word was
 /// fetched.
+// Bytes, and records by number in them, since the format is fixed to the byte.
 #[derive(Drop)]
 pub struct RecordMemory {
     bytes: [u8; 1024],
