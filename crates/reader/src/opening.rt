@@ -1,10 +1,12 @@
 //! The parser where an operand is due.
 
-ghost use Rattle.std.specs.Prelude.{◌≡◌, true, false, [], ◌∷◌, Ok};
+ghost use Rattle.std.specs.Prelude.{◌≡◌, true, false, [], ◌∷◌, ◌<◌, Ok, IfSome};
 ghost use Rattle.language.specs.Fold.{fresh, leaf, opened, enter, enter_whole, opening_of, begun};
 ghost use Rattle.language.specs.Frames.{is_body, frame};
+ghost use Rattle.language.specs.Names.{position};
 ghost use Rattle.reader.specs.Lets.{is_value, due_fits, Opens};
 ghost use Rattle.reader.specs.Opened.{frames_of};
+ghost use Rattle.reader.specs.Scopes.{held};
 ghost use Rattle.reader.specs.Stacks.{opens};
 ghost use Rattle.reader.specs.Steps.{view, Room, Stepped};
 
@@ -88,6 +90,15 @@ impl<'t, 'a> Parser<'t, 'a> {
         self.due = Due::Operator;
     }
 
+    // The position of a name among those in scope. In a method, since the check has no rule for this call beside a token that
+    // is borrowed.
+    fn position(&self, text: &[u8]) -> Option<usize>
+        ensures value { result ≡ position text.now (held self.now.scope) }
+        ensures bound { IfSome result (λ i. i < 72) }
+    {
+        self.scope.position(text)
+    }
+
     /// Takes a token where an operand is due.
     pub(crate) fn begin(&mut self, token: Token<'a>) -> Result<(), Refusal>
         requires { Room self.old }
@@ -98,7 +109,6 @@ impl<'t, 'a> Parser<'t, 'a> {
             Opening::Leaf(kind, number) => self.leaf(kind, number, place),
             Opening::Name => {
                 let i = self
-                    .scope
                     .position(token.text)
                     .ok_or(Refusal::UnboundName(place))?;
                 self.leaf(Kind::Name, Argument::plus(i as u8), place);

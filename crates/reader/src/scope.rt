@@ -5,15 +5,16 @@ ghost use Rattle.language.specs.Names.{field_names, find, position};
 ghost use Rattle.reader.specs.Scopes.{newest_first, held};
 
 use crate::names::Names;
-use arrayvec::ArrayVec;
 
 impl<'a> Names<'a> {
     /// No names.
     pub(crate) fn new() -> Names<'a>
         ensures { held result ≡ [] }
     {
+        let none: &'a [u8] = &[];
         Names {
-            names: ArrayVec::new(),
+            names: [none; 64],
+            count: 0,
         }
     }
 
@@ -22,7 +23,8 @@ impl<'a> Names<'a> {
         requires { length (held self.old) < 64 }
         ensures { held self.new ≡ text.now ∷ held self.old }
     {
-        self.names.push(text);
+        self.names[self.count] = text;
+        self.count += 1;
     }
 
     /// Takes the name on top off.
@@ -30,7 +32,7 @@ impl<'a> Names<'a> {
         ensures held { held self.new ≡ drop 1 (held self.old) }
         ensures count { length (held self.new) ≡ length (held self.old) - 1 }
     {
-        self.names.pop();
+        self.count = self.count.saturating_sub(1);
     }
 
     /// Takes the name on top off and puts it on top of the others.
@@ -42,9 +44,9 @@ impl<'a> Names<'a> {
         ensures count { length (held self.new) + 1 ≡ length (held self.old) }
         ensures counted { length (held others.new) ≡ length (held others.old) + 1 }
     {
-        if let Some(name) = self.names.pop() {
-            others.names.push(name);
-        }
+        let last = self.count - 1;
+        others.push(self.names[last]);
+        self.count = last;
     }
 
     /// The position of a name, the newest name being the innermost binding and the fields standing outside all names.
@@ -52,7 +54,7 @@ impl<'a> Names<'a> {
         ensures value { result ≡ position text.now (held self.now) }
         ensures bound { IfSome result (λ i. i < 72) }
     {
-        find_among(self.names.as_slice(), text)
+        find_among(&self.names[..self.count], text)
     }
 }
 
