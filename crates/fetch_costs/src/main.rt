@@ -32,14 +32,27 @@ fn sum<M: CodeMemory>(memory: &mut M, rounds: u32) -> u64 {
     all
 }
 
+// The sum of a flat memory. As the next, a function of its own that is not put into its caller: what reading costs then
+// hangs on no code around it.
+#[inline(never)]
+fn flat(rounds: u32) -> u64 {
+    let mut bytes = [0; 945];
+    sum(&mut Flat::new(&mut bytes), rounds)
+}
+
+// The sum of a record memory.
+#[inline(never)]
+fn chained(rounds: u32) -> u64 {
+    sum(&mut RecordMemory::new(), rounds)
+}
+
 // The sums of one memory, or of both.
 fn show(rt: &HostRuntime, name: &str, rounds: u32) -> anyhow::Result<()> {
     if name != "records" {
-        let mut bytes = [0; 945];
-        println!(rt; "flat {}", sum(&mut Flat::new(&mut bytes), rounds))?;
+        println!(rt; "flat {}", flat(rounds))?;
     }
     if name != "flat" {
-        println!(rt; "records {}", sum(&mut RecordMemory::new(), rounds))?;
+        println!(rt; "records {}", chained(rounds))?;
     }
     Ok(())
 }
