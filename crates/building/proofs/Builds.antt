@@ -19,7 +19,7 @@ pub record Took (entries : ℕ) (text : List ℕ) (part : List Entry) : Type 0 w
   pub few : length part ≤ 512
   pub formed : Formed part
 
-part_of : (R : Result (List Entry) Refusal) (old new : List Entry) (r : Result ℕ Refusal) (n : ℕ) → r ≡ answer R → new ≡ leaves old R → r ≡ Ok n → R ≡ Ok (take (n - 0) new)
+pub part_of : (R : Result (List Entry) Refusal) (old new : List Entry) (r : Result ℕ Refusal) (n : ℕ) → r ≡ answer R → new ≡ leaves old R → r ≡ Ok n → R ≡ Ok (take (n - 0) new)
 part_of (Ok es) old new r n a l was =
     let same : n ≡ length es = cc in
     simp (l, take_at es (drop (length es) old) (n - 0) (omega arith))

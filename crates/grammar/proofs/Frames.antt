@@ -32,7 +32,7 @@ pub none_ends : (k : ℕ) (fs : List Frame) (n : ℕ) (g : List (List ℕ)) → 
 none_ends k fs n g b = grind arith
 
 -- where a frame ends at k, it ends at each looser level
-tight : (j k : ℕ) (m : Mark) → j ≤ k → binds k m ≡ true → binds j m ≡ true
+pub tight : (j k : ℕ) (m : Mark) → j ≤ k → binds k m ≡ true → binds j m ≡ true
 tight j k m h b = grind (arith, nat_tests)
 
 -- what ends at j ends first at k, then the rest

@@ -1,6 +1,6 @@
 -- The words of a slice from the base to a height, the top first, and those above.
 use Rattle.std.proofs.Common.{◌≡◌, ℕ, zero, suc, ◌+◌, ◌-◌, ◌<◌, ◌≤◌, List, [], ◌∷◌, ◌++◌, reverse, length, take, drop, set, sym, refl, ap, ◌∙◌, arith, append_assoc, length-drop, take-append-drop}
-use Rattle.std.proofs.lemmas.List.{take_at, drop_at, set_split, take-take, drop-append-le, length-take-le, length-reverse, reverse-append, reverse-reverse}
+use Rattle.std.proofs.lemmas.List.{take_at, drop_at, set_split, take-take, drop-take, drop-append-le, length-take-le, length-reverse, reverse-append, reverse-reverse}
 use Rattle.std.proofs.Math.Seq.{take-set-lt}
 use Rattle.std.proofs.lemmas.Grind.{common_steps}
 use Rattle.machine.specs.Steps.{freed}
@@ -43,6 +43,10 @@ module _ {W : Type 0} where
       let e = length-take-le h xs le in
       let f = length-drop base (take h xs) in
       length-reverse (drop base (take h xs)) ∙ omega arith
+
+  -- above a base as on the words from there on
+  pub held_above : (xs : List W) (base h : ℕ) → held xs base (base + h) ≡ held (drop base xs) 0 h
+  held_above xs base h = ap reverse (drop-take base h xs)
 
   module _ (xs : List W) (h k : ℕ) (fits : h ≤ length xs) where
     pub held_set : (v : W) → k < h → set (held xs 0 h) k v ≡ held (set xs (h - (k + 1)) v) 0 h

@@ -1,2 +1,2 @@
 pub mod Bytes
-mod Flats
+pub mod Flats

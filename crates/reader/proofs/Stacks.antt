@@ -34,6 +34,15 @@ few (f ∷ fs) h =
     let s = p.0 in
     grind (arith, ltb-true)
 
+-- a frame that may be put on top finds room
+pub room : (m : Mark) (fs : List Frame) → shaped fs ≡ true → deep fs ≤ 64 → opens m fs ≡ true → length fs < 389
+room m fs h d o =
+    let n = few fs h in
+    let high = rank_high fs in
+    let low = rank_above fs in
+    let flat = flat_high m in
+    grind (arith, ltb-true)
+
 module _ (s : Stack) where
   -- a stack holds no more frames than there are places
   pub within : length s.frames.items ≤ 389
@@ -41,15 +50,10 @@ module _ (s : Stack) where
       let fs = frames_of s in
       omega (arith, s.nested, s.shallow, rank_high fs, few fs s.shaped, length-reverse s.frames.items)
 
-  -- a frame that may be put on top finds room
-  pub room : (m : Mark) → opens m (frames_of s) ≡ true → length s.frames.items < 389
-  room m o =
+  pub push_room : (m : Mark) → opens m (frames_of s) ≡ true → length s.frames.items < 389
+  push_room m o =
       let fs = frames_of s in
-      let n = few fs s.shaped in
-      let long = length-reverse s.frames.items in
-      let high = rank_high fs in
-      let low = rank_above fs in
-      let d = s.nested in
-      let t = s.shallow in
-      let flat = flat_high m in
-      grind (arith, ltb-true)
+      let deep = s.nested in
+      let few = s.shallow in
+      let r = room m fs s.shaped (omega arith) o in
+      omega (arith, length-reverse s.frames.items)

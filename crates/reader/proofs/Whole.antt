@@ -83,10 +83,10 @@ counts_bound s k p x = grind (arith, length-remarked)
 counts_duly : (d : Due) (s : State) (k : TokenKind) (p : ℕ) (x : List ℕ) → Counts s.count (total s + 1) (duly d s k p x)
 counts_duly d s k p x = grind (arith, counts_begun, counts_bound, counts_gone_on)
 
-feed_counts : (s : State) (t : Lexeme) → Counts s.count (total s + 1) (feed s t)
+pub feed_counts : (s : State) (t : Lexeme) → Counts s.count (total s + 1) (feed s t)
 feed_counts s t = counts_duly s.due s t.kind t.place t.text
 
-laid_more : (table : List Entry) (n : ℕ) (es : List Entry) (r : Result (List Entry) Refusal) → laid table n (prefixed es r) ≡ laid (put table n es) (n + length es) r
+pub laid_more : (table : List Entry) (n : ℕ) (es : List Entry) (r : Result (List Entry) Refusal) → laid table n (prefixed es r) ≡ laid (put table n es) (n + length es) r
 laid_more table n es r = grind (arith, put_more, length-append)
 
 -- what a step that was refused, and one that was not, says of the fold
@@ -110,7 +110,7 @@ counts_ok n most x u h e = subst (Counts n most) e h
 feeds_err : (b : Bool) (s : State) (t : Lexeme) (ts : List Lexeme) (e : Refusal) → feed s t ≡ Err e → feeds s (cond b (t ∷ []) (t ∷ ts)) ≡ Err e
 feeds_err b s t ts e h = grind arith
 
-feeds_on : (b : Bool) (s : State) (t : Lexeme) (ts : List Lexeme) (u : State × List Entry) → b ≡ false → feed s t ≡ Ok u → feeds s (cond b (t ∷ []) (t ∷ ts)) ≡ prefixed u.1 (feeds u.0 ts)
+pub feeds_on : (b : Bool) (s : State) (t : Lexeme) (ts : List Lexeme) (u : State × List Entry) → b ≡ false → feed s t ≡ Ok u → feeds s (cond b (t ∷ []) (t ∷ ts)) ≡ prefixed u.1 (feeds u.0 ts)
 feeds_on b s t ts u l h = grind arith
 
 -- one turn, at the place p of the text with tokens enough

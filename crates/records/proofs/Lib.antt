@@ -1,5 +1,5 @@
 mod Links
 mod Codes
-mod Operations
+pub mod Operations
 mod Blanks
 mod Followed

@@ -11,7 +11,7 @@ use Rattle.bytecode.proofs.Words.{word_back}
 use Rattle.bytecode.specs.declared.instruction.Word.{Word}
 use Rattle.bytecode.specs.declared.instruction.Instruction.{Instruction}
 use Rattle.evaluation.specs.Worth.{pair_places}
-use Rattle.language.proofs.Lengths.{length-code}
+use Rattle.language.proofs.Lengths.{length-code, long_some}
 use Rattle.language.specs.Code.{Slot, bound, waiting, code, long}
 use Rattle.language.specs.Tree.{Tree, number, truth, name, prefix, binary, choose, bind}
 use Rattle.machine.specs.Steps.{fetch, read_as, followed}
@@ -61,12 +61,13 @@ before_end get end past x p q f = by (cases_lt p end)
     by (inl lt) = lt
     by (inr ge) = let e = past p ge in cc
 
-at_fits : (get : ℕ → Option (Instruction × ℕ)) (end : ℕ) → ((p : ℕ) → end ≤ p → get p ≡ None) → (x : Instruction) (xs : List Instruction) (p : ℕ) → CodeAt get p (x ∷ xs) → p + 1 + length xs ≤ end
-at_fits get end past x [] p c = let r = before_end get end past x p (p + 1) c.0 in omega arith
-at_fits get end past x (y ∷ xs) p c = let r = at_fits get end past y xs (p + 1) c.1 in omega arith
+pub at_fits : (get : ℕ → Option (Instruction × ℕ)) (end : ℕ) → ((p : ℕ) → end ≤ p → get p ≡ None) → (xs : List Instruction) (p : ℕ) → 0 < length xs → CodeAt get p xs → p + length xs ≤ end
+at_fits get end past [] p h c = absurd (omega arith)
+at_fits get end past (x ∷ []) p h c = let r = before_end get end past x p (p + 1) c.0 in omega arith
+at_fits get end past (x ∷ (y ∷ xs)) p h c = let r = at_fits get end past (y ∷ xs) (p + 1) (omega arith) c.1 in omega arith
 
-pub code_fits : (get : ℕ → Option (Instruction × ℕ)) (end : ℕ) → ((p : ℕ) → end ≤ p → get p ≡ None) → (x : Instruction) (s : List Slot) (t : Tree) (p : ℕ) → CodeAt get p (x ∷ code s t) → p + 1 + long t ≤ end
-code_fits get end past x s t p c = rw length-code at (at_fits get end past x (code s t) p c)
+pub code_fits : (get : ℕ → Option (Instruction × ℕ)) (end : ℕ) → ((p : ℕ) → end ≤ p → get p ≡ None) → (s : List Slot) (t : Tree) (p : ℕ) → CodeAt get p (code s t) → p + long t ≤ end
+code_fits get end past s t p c = rw length-code at (at_fits get end past (code s t) p (rw length-code (long_some t)) c)
 
 -- the words of instructions, read from the list of them
 code_stands_after : (ws : List Word) (xs : List Instruction) → CodeAt (fetch (ws ++ map written xs)) (length ws) xs

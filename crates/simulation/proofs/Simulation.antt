@@ -296,7 +296,7 @@ module _ {W : Type 0} (ops : Ops W) (law : Lawful ops) (end : ℕ) (get : ℕ �
   simulated (choose pos t u v) s env p acc st fs n a c w g r =
       let ct = split_code get t s (Branchif (plus (long v + 2)) ∷ (code s v ++ Branch (plus (long u + 1)) ∷ code s u)) p c in
       let cv = split_code get v s (Branch (plus (long u + 1)) ∷ code s u) (p + long t + 1) ct.1.1 in
-      let f = code_fits get end past (Branch (plus (long u + 1))) s u (p + long t + 1 + long v) cv.1 in
+      let f = code_fits get end past s u (p + long t + 1 + long v + 1) cv.1.1 in
       three p acc st fs n (long u) (three_places (long t) (long v) (size t) (size u) (size v) (placed t) (placed u) (placed v)) (Fits ops Truth) (Fits ops a)
       ct.1.0 cv.1.0 (omega arith) (worth ops u (values s st)) (worth ops v (values s st))
       (λ x m gs l. simulated u s env (p + long t + 1 + long v + 1) x st gs m a cv.1.1 w.1.0 g (omega arith))
