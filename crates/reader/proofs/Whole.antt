@@ -107,8 +107,11 @@ counts_ok : (n most : ℕ) (x : Step) (u : State × List Entry) → Counts n mos
 counts_ok n most x u h e = subst (Counts n most) e h
 
 -- the tokens from a place on begin with the token there
-feeds_err : (b : Bool) (s : State) (t : Lexeme) (ts : List Lexeme) (e : Refusal) → feed s t ≡ Err e → feeds s (cond b (t ∷ []) (t ∷ ts)) ≡ Err e
+pub feeds_err : (b : Bool) (s : State) (t : Lexeme) (ts : List Lexeme) (e : Refusal) → feed s t ≡ Err e → feeds s (cond b (t ∷ []) (t ∷ ts)) ≡ Err e
 feeds_err b s t ts e h = grind arith
+
+pub feeds_last : (b : Bool) (s : State) (t : Lexeme) (ts : List Lexeme) (u : State × List Entry) → b ≡ true → feed s t ≡ Ok u → feeds s (cond b (t ∷ []) (t ∷ ts)) ≡ Ok u.1
+feeds_last b s t ts u l h = grind (arith, append-nil)
 
 pub feeds_on : (b : Bool) (s : State) (t : Lexeme) (ts : List Lexeme) (u : State × List Entry) → b ≡ false → feed s t ≡ Ok u → feeds s (cond b (t ∷ []) (t ∷ ts)) ≡ prefixed u.1 (feeds u.0 ts)
 feeds_on b s t ts u l h = grind arith
