@@ -90,8 +90,8 @@ impl<'t, 'a> Parser<'t, 'a> {
         self.due = Due::Operator;
     }
 
-    // The position of a name among those in scope. In a method, since the check has no rule for this call beside a token that
-    // is borrowed.
+    // The position of a name among those in scope. A method of the parser, since the check has no rule for a call on the field
+    // itself in `begin`, whose token holds a part of the text.
     fn position(&self, text: &[u8]) -> Option<usize>
         ensures value { result ≡ position text.now (held self.now.scope) }
         ensures bound { IfSome result (λ i. i < 72) }
